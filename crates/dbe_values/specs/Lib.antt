@@ -1,0 +1,5 @@
+pub mod Attributes
+pub mod Json
+pub mod Keys
+pub mod Reading
+pub mod Writing

@@ -1,0 +1,16 @@
+//! The values of DynamoDB: attributes, items and their keys, and the JSON that spells them.
+#![tactic(auto)]
+
+mod item;
+mod json;
+mod key;
+mod read;
+mod value;
+mod write;
+
+pub use item::Item;
+pub use json::{json_value, size_of};
+pub use key::{KeyKind, KeyName, KeySchema};
+pub use read::item_from_json;
+pub use value::AttrValue;
+pub use write::item_to_json;
