@@ -1,5 +1,5 @@
 -- The attributes of an item: names and values.
-use Rattle.std.specs.Prelude.{ℕ, List, [], ◌∷◌, Option, Some, None, if◌then◌else◌}
+use Rattle.std.specs.Prelude.{ℕ, Bool, List, [], ◌∷◌, Option, Some, None, if◌then◌else◌}
 use Rattle.std.specs.Str.{bytes_eq}
 use Rattle.dbe_values.specs.declared.value.AttrValue.{AttrValue}
 use Rattle.dbe_values.specs.declared.value.AttrValue.TheVariants.{S}
@@ -17,3 +17,7 @@ value_at name (a ∷ as_) = if bytes_eq a.0 name then Some a.1 else value_at nam
 abbrev pub text_of : Option AttrValue → Option (List ℕ)
 text_of None = None
 text_of (Some (S text)) = Some text
+
+-- whether two values are the same, by type and content
+abbrev pub equal : AttrValue → AttrValue → Bool
+equal (S x) (S y) = bytes_eq x y

@@ -13,7 +13,11 @@ pub fn json_value(alloc: Global, bytes: &[u8]) -> Result<Option<Value>, Memory>
 {
     match Value::from_slice(alloc, bytes) {
         Ok(value) => Ok(Some(value)),
-        Err(error) => if error.is_memory() { Err(Memory) } else { Ok(None) },
+        Err(error) => if error.is_memory() {
+            Err(Memory)
+        } else {
+            Ok(None)
+        },
     }
 }
 

@@ -12,5 +12,5 @@ pub use item::Item;
 pub use json::{json_value, size_of};
 pub use key::{KeyKind, KeyName, KeySchema};
 pub use read::item_from_json;
-pub use value::AttrValue;
+pub use value::{AttrValue, equal};
 pub use write::item_to_json;

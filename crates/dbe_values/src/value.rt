@@ -1,4 +1,5 @@
 ghost use Rattle.std.specs.Prelude.{◌≡◌, IfOk};
+ghost use Rattle.dbe_values.specs.Attributes.{equal};
 
 use dbe_num::{Memory, Text};
 use std::alloc::Global;
@@ -17,5 +18,14 @@ impl AttrValue {
         match self {
             AttrValue::S(text) => Ok(AttrValue::S(text.copy(alloc)?)),
         }
+    }
+}
+
+/// Whether two values are the same value, by type and content.
+pub fn equal(a: &AttrValue, b: &AttrValue) -> bool
+    ensures { result ≡ equal a.now b.now }
+{
+    match (a, b) {
+        (AttrValue::S(x), AttrValue::S(y)) => x.as_bytes() == y.as_bytes(),
     }
 }

@@ -15,7 +15,10 @@ pub fn item_to_json(alloc: Global, item: &Item) -> Result<Value, Memory>
     let mut map = Map::new(alloc);
     for i in 0..item.len() {
         let (name, value) = item.at(i);
-        map.insert(name.copy(alloc)?.into_string(), value_to_json(alloc, value)?)?;
+        map.insert(
+            name.copy(alloc)?.into_string(),
+            value_to_json(alloc, value)?,
+        )?;
     }
     Ok(Value::Object(map))
 }
