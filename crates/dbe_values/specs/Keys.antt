@@ -1,5 +1,5 @@
 -- The key of a row, and the order of rows.
-use Rattle.std.specs.Prelude.{ℕ, ◌≡◌, ◌<◌, ◌≤◌, ◌&&◌, Bool, false, List, [], length, nat_lt, nat_le, Option, Some, None, unwrap_or}
+use Rattle.std.specs.Prelude.{ℕ, ◌&&◌, Bool, List, [], length, nat_lt, nat_le, Option, Some, None, is_some, unwrap_or, if◌then◌else◌}
 use Rattle.std.specs.Ordering.{nat_cmp}
 use Rattle.std.specs.declared.cmp.Ordering.{Ordering}
 use Rattle.std.specs.Cmp.Lexicographic.{slice_cmp}
@@ -11,18 +11,22 @@ use Rattle.dbe_values.specs.Attributes.{value_at, text_of}
 abbrev pub key_text : KeySchema → List (List ℕ × AttrValue) → Option (List ℕ)
 key_text schema row = text_of (value_at schema.partition.name row)
 
--- the greatest length of a partition key, in bytes (DynamoDB, Service quotas)
-abbrev pub is_key_text : Option (List ℕ) → Bool
-is_key_text None = false
-is_key_text (Some text) = nat_lt 0 (length text) && nat_le (length text) 2048
+-- A partition key has 1 to 2,048 bytes (DynamoDB, Service quotas).
+abbrev pub lawful : Option (List ℕ) → Option (List ℕ)
+lawful None = None
+lawful (Some text) = if nat_lt 0 (length text) && nat_le (length text) 2048 then Some text else None
+
+-- the key of a row that has a lawful one
+abbrev pub row_key : KeySchema → List (List ℕ × AttrValue) → Option (List ℕ)
+row_key schema row = lawful (key_text schema row)
 
 -- whether a row has a lawful key
 abbrev pub has_key : KeySchema → List (List ℕ × AttrValue) → Bool
-has_key schema row = is_key_text (key_text schema row)
+has_key schema row = is_some (row_key schema row)
 
 -- the key of a row that has one
 abbrev pub key_of : KeySchema → List (List ℕ × AttrValue) → List ℕ
-key_of schema row = unwrap_or (key_text schema row) []
+key_of schema row = unwrap_or (row_key schema row) []
 
 -- the order of rows by their keys
 abbrev pub key_order : KeySchema → List (List ℕ × AttrValue) → List (List ℕ × AttrValue) → Ordering

@@ -1,5 +1,7 @@
-ghost use Rattle.std.specs.Prelude.{◌≡◌, IfOk};
+ghost use Rattle.std.specs.Prelude.{◌≡◌, IfOk, option_map};
+ghost use Rattle.dbe_values.specs.Keys.{row_key};
 
+use crate::{AttrValue, Item};
 use dbe_num::{Memory, Text};
 use std::alloc::Global;
 
@@ -42,4 +44,16 @@ impl KeySchema {
             partition: self.partition.copy(alloc)?,
         })
     }
+}
+
+/// The key of an item, or none where it has no lawful one: a partition key is a text of 1 to 2,048 bytes.
+pub fn read_key<'a>(schema: &KeySchema, item: &'a Item) -> Option<&'a str>
+    ensures { option_map (λ k. k.now) result ≡ row_key schema.now item.now }
+{
+    let AttrValue::S(text) = item.get(schema.partition.name.as_str())?;
+    let key = text.as_str();
+    if key.is_empty() || key.len() > 2048 {
+        return None;
+    }
+    Some(key)
 }

@@ -1,0 +1,6 @@
+//! dbe.
+#![tactic(auto)]
+
+mod config;
+
+pub use config::{Action, Config, ConfigFault};
