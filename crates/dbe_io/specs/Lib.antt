@@ -1,0 +1,6 @@
+pub mod Causes
+pub mod Prefix
+pub mod Lines
+pub mod Reading
+pub mod Held
+pub mod Steps
