@@ -4,3 +4,4 @@ pub mod Lines
 pub mod Reading
 pub mod Held
 pub mod Steps
+pub mod Memory

@@ -1,5 +1,5 @@
 -- The lines of bytes. A newline is the byte 10.
-use Rattle.std.specs.Prelude.{ℕ, ◌≢◌, ◌==◌, ◌<◌, ◌≤◌, List, [], ◌∷◌, if◌then◌else◌, length, slice_index, EachIndex}
+use Rattle.std.specs.Prelude.{ℕ, ◌≡◌, ◌≢◌, ◌==◌, ◌<◌, ◌≤◌, List, [], ◌∷◌, if◌then◌else◌, length, slice_index, EachIndex}
 
 -- b at the front of the first line
 abbrev pub onto : ℕ → List (List ℕ) → List (List ℕ)
@@ -38,3 +38,13 @@ pub record IsTooMuch (limit most : ℕ) (bytes : List ℕ) : Type 0 where
   pub not_too_long : ¬ IsTooLong limit most bytes
   pub no_end : most ≤ length (first_piece bytes)
   pub more : most < length bytes
+
+-- the last byte, b where there is no other
+abbrev pub last_byte : ℕ → List ℕ → ℕ
+last_byte b [] = b
+last_byte b (c ∷ bytes) = last_byte c bytes
+
+-- bytes are empty, or end with a newline
+abbrev pub IsWhole : List ℕ → Type 0
+IsWhole [] = Unit {0}
+IsWhole (b ∷ bytes) = last_byte b bytes ≡ 10
