@@ -2,6 +2,7 @@
 #![tactic(auto)]
 
 mod failed;
+mod file_source;
 mod held;
 pub mod laws;
 mod lines;
@@ -9,10 +10,15 @@ mod mem_sink;
 mod mem_source;
 mod sink;
 mod source;
+mod std_sink;
+mod std_source;
 
 pub use failed::Failed;
+pub use file_source::FileSource;
 pub use lines::{LineFault, LineReader};
 pub use mem_sink::MemSink;
 pub use mem_source::MemSource;
 pub use sink::{Sink, WriteFault, write_all};
 pub use source::Source;
+pub use std_sink::StdSink;
+pub use std_source::StdSource;
