@@ -1,0 +1,12 @@
+use Rattle.std.proofs.Common.{◌≤◌}
+use Rattle.dbe_io.specs.Steps.{Took, reads_left}
+use Rattle.dbe_io.proofs.lines.LineReader.seek.Given as goal
+
+abbrev pub invariant-pieces : goal.invariant-pieces
+invariant-pieces g l = record {
+  took : Took l.fn.self l.self (g.S.Source.left l.fn.source) (g.S.Source.left l.source);
+  later : g.S.Source.faults l.fn.source ≤ g.S.Source.faults l.source;
+}
+
+abbrev pub decreases-pieces : goal.decreases-pieces
+decreases-pieces g l = reads_left l.self

@@ -1,0 +1,14 @@
+use Rattle.std.proofs.Common.{arith, rules, length-drop}
+use Rattle.dbe_io.proofs.Fronts.{Appends-more, AppendsPrefix-more}
+use Rattle.dbe_io.proofs.sink.write_all.Goals as goal
+
+pub pieces-preserved : goal.pieces-preserved
+pieces-preserved g c = record {
+  within = omega (arith, length-drop c.pieces.at c.args.bytes.now, c.in-Ok.ensures.bound);
+  front = Appends-more _ _ _ _ _ _ c.pieces.invariant.front c.in-Ok.ensures.bytes;
+  later = search rules;
+  idle_later = search rules;
+}
+
+pub returns-in-Err-clause-prefix : goal.returns-in-Err-clause-prefix
+returns-in-Err-clause-prefix g c = AppendsPrefix-more _ _ _ _ _ c.pieces.invariant.within c.pieces.invariant.front c.in-Err.ensures.bytes

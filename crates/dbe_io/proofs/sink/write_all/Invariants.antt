@@ -1,0 +1,14 @@
+use Rattle.std.proofs.Common.{length, take, ◌-◌, ◌≤◌}
+use Rattle.std.specs.Io.KnownBytes.{Appends}
+use Rattle.dbe_io.proofs.sink.write_all.Given as goal
+
+abbrev pub invariant-pieces : goal.invariant-pieces
+invariant-pieces g l = record {
+  within : l.at ≤ length l.bytes;
+  front : Appends (g.O.Sink.written l.fn.sink) (g.O.Sink.written l.sink) (take l.at l.bytes);
+  later : g.O.Sink.faults l.fn.sink ≤ g.O.Sink.faults l.sink;
+  idle_later : g.O.Sink.idle l.fn.sink ≤ g.O.Sink.idle l.sink;
+}
+
+abbrev pub decreases-pieces : goal.decreases-pieces
+decreases-pieces g l = length l.bytes - l.at

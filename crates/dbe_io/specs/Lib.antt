@@ -1,0 +1,7 @@
+pub mod Causes
+pub mod Prefix
+pub mod Lines
+pub mod Reading
+pub mod Held
+pub mod Steps
+pub mod Memory

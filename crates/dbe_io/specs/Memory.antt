@@ -1,0 +1,30 @@
+-- What contracts see of a source and a sink in memory.
+use Rattle.std.specs.Prelude.{ℕ, ◌==◌, ◌+◌, ◌-◌, ◌^◌, min, Bool, List}
+use Rattle.std.specs.List.{list_any}
+
+-- a source in memory
+pub record Giving : Type 0 where
+  pub left : List ℕ  -- the bytes still to come
+  pub most : ℕ  -- the most bytes of one call
+  pub calls : ℕ  -- how many calls were made
+  pub fails : List ℕ  -- which calls fail, from 1
+  pub faults : ℕ  -- how many have failed
+
+-- a sink in memory
+pub record Taking : Type 0 where
+  pub written : List ℕ  -- the bytes that were written
+  pub room : ℕ  -- the most bytes of all calls
+  pub most : ℕ  -- the most bytes of one call
+  pub calls : ℕ  -- how many calls were made
+  pub fails : List ℕ  -- which calls fail, from 1
+  pub faults : ℕ  -- how many have failed
+  pub idle : ℕ  -- how many took nothing of a piece that has bytes
+  pub finished : Bool  -- whether the last call was a `finish` that was Ok
+
+-- a count that stays at its greatest value
+abbrev pub one_more : ℕ → ℕ
+one_more n = min (n + 1) (2 ^ 64 - 1)
+
+-- whether a plan lets this call fail
+abbrev pub fails_at : List ℕ → ℕ → Bool
+fails_at fails call = list_any (λ k. k == call) fails

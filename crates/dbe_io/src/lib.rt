@@ -1,0 +1,24 @@
+//! What comes in and goes out: sources, sinks, and the lines of a source.
+#![tactic(auto)]
+
+mod failed;
+mod file_source;
+mod held;
+pub mod laws;
+mod lines;
+mod mem_sink;
+mod mem_source;
+mod sink;
+mod source;
+mod std_sink;
+mod std_source;
+
+pub use failed::Failed;
+pub use file_source::FileSource;
+pub use lines::{LineFault, LineReader};
+pub use mem_sink::MemSink;
+pub use mem_source::MemSource;
+pub use sink::{Sink, WriteFault, write_all};
+pub use source::Source;
+pub use std_sink::StdSink;
+pub use std_source::StdSource;

@@ -1,0 +1,181 @@
+ghost use Rattle.std.specs.Prelude.{◌≡◌, ◌≢◌, ◌≤◌, ◌<◌, ◌⊎◌, ◌++◌, ◌∷◌, [], length, true, false, IfOk, IfErr, OnOk, OnErr, OnSome, IfSome, IfNone, IsErrOf, Some, None, MatchOption};
+ghost use Rattle.std.specs.Io.KnownBytes.{Keeps};
+ghost use Rattle.dbe_io.specs.Causes.{Rose};
+ghost use Rattle.dbe_io.specs.Lines.{first_piece};
+ghost use Rattle.dbe_io.specs.Reading.{Given, Stops, IsCause, budget, most_of};
+ghost use Rattle.dbe_io.specs.Steps.{IsLineAt, IsOpen, Took, Refused, reads_left};
+
+use crate::Source;
+use crate::held::Held;
+use dbe_num::Memory;
+use std::alloc::Global;
+use std::marker::Model;
+
+/// Why a line was not given.
+#[derive(Clone, Copy, Debug, PartialEq, Eq)]
+pub enum LineFault {
+    /// Memory ran out.
+    Memory,
+    /// The source failed.
+    Read,
+    /// A line has more bytes than the limit.
+    LineTooLong,
+    /// The source has more bytes than the total, and the line does not end within it.
+    TooMuch,
+}
+
+/// The lines of a source, each within a limit, and all within a total.
+#[derive(Drop)]
+pub struct LineReader {
+    limit: usize,
+    total: u64,
+    given: u64,
+    held: Held,
+    ended: bool,
+    fault: Option<LineFault>,
+}
+
+impl Model for LineReader {
+    ghost use Rattle.dbe_io.specs.Reading.{Reading};
+
+    ghost Value = { Reading };
+
+    ghost use Rattle.std.specs.Prelude.{◌+◌, ◌≤◌, length};
+
+    ghost view = { λ r. record { limit = r.limit; total = r.total; held = r.held; taken = r.given + length r.held; ended = r.ended; fault = r.fault } };
+
+    ghost invariant = { λ r. r.given ≤ r.total };
+}
+
+impl LineReader {
+    /// A reader of lines of at most `limit` bytes, which takes at most `total` bytes and one more.
+    pub fn new(alloc: Global, limit: usize, total: u64) -> Result<LineReader, Memory>
+        ensures { IfOk result (λ r. r ≡ record { limit = limit; total = total; held = []; taken = 0; ended = false; fault = None }) }
+    {
+        Ok(LineReader {
+            limit,
+            total,
+            given: 0,
+            held: Held::new(alloc)?,
+            ended: false,
+            fault: None,
+        })
+    }
+
+    /// The next line without its newline, and none at the end. A last piece without a newline is a
+    /// line. After a fault each later call answers the same fault.
+    pub fn next<S: Source>(&mut self, source: &mut S) -> Result<Option<Vec<u8>>, LineFault>
+        ensures line { IfOk result (Given self.old self.new (S.left source.old) (S.left source.new)) }
+        ensures stop { IfErr result (Stops self.old self.new (S.left source.old) (S.left source.new)) }
+        ensures shrinks { IfOk result (λ line. OnSome line (budget self.new < budget self.old)) }
+        ensures later { S.faults source.old ≤ S.faults source.new }
+        ensures read { IsErrOf result LineFault.Read → (self.old.fault ≡ Some LineFault.Read) ⊎ Rose (S.faults source.old) (S.faults source.new) }
+    {
+        if let Some(fault) = self.fault {
+            return Err(fault);
+        }
+        match self.seek(source) {
+            Ok(line) => Ok(line),
+            Err(fault) => {
+                self.fault = Some(fault);
+                Err(fault)
+            }
+        }
+    }
+
+    // The next line, read on until it ends.
+    fn seek<S: Source>(&mut self, source: &mut S) -> Result<Option<Vec<u8>>, LineFault>
+        requires { self.old.fault ≡ None }
+        ensures line { IfOk result (Given self.old self.new (S.left source.old) (S.left source.new)) }
+        ensures refused { IfErr result (Refused self.old self.new (S.left source.old) (S.left source.new)) }
+        ensures shrinks { IfOk result (λ line. OnSome line (budget self.new < budget self.old)) }
+        ensures later { S.faults source.old ≤ S.faults source.new }
+        ensures read { IsErrOf result LineFault.Read → Rose (S.faults source.old) (S.faults source.new) }
+    {
+        'pieces: loop {
+            if let Some(at) = self.newline()? {
+                return self.take_line(at);
+            }
+            if self.ended {
+                return self.take_last();
+            }
+            if let Err(fault) = self.refill(source) {
+                return Err(fault);
+            }
+        }
+    }
+
+    // Where the line that is held ends.
+    fn newline(&self) -> Result<Option<usize>, LineFault>
+        ensures found { IfOk result (λ place. MatchOption place (IsOpen self.now) (IsLineAt self.now)) }
+        ensures cause { IfErr result (IsCause self.now.limit (most_of self.now) self.now.held) }
+        ensures not_read { IsErrOf result LineFault.Read → ⊥ }
+    {
+        let most = self.total - self.given;
+        let place = self.held.newline();
+        let length = place.unwrap_or(self.held.len());
+        if self.limit < length && (self.limit as u64) < most {
+            return Err(LineFault::LineTooLong);
+        }
+        if most < length as u64 || (most == length as u64 && place.is_some()) {
+            return Err(LineFault::TooMuch);
+        }
+        Ok(place)
+    }
+
+    // The line that ends at a place.
+    fn take_line(&mut self, at: usize) -> Result<Option<Vec<u8>>, LineFault>
+        requires { IsLineAt self.old at }
+        ensures some { IfOk result (λ line. line ≢ None) }
+        ensures line { IfOk result (λ line. IfSome line (λ v. self.old.held ≡ v.items ++ 10 ∷ self.new.held)) }
+        ensures first { IfOk result (λ line. IfSome line (λ v. v.items ≡ first_piece self.old.held)) }
+        ensures same { OnOk result (self.new ≡ record self.old { held = self.new.held }) }
+        ensures err { OnErr result (self.new ≡ self.old) }
+        ensures memory { IfErr result (λ fault. fault ≡ LineFault.Memory) }
+    {
+        let Ok(line) = self.held.take_line(at) else {
+            return Err(LineFault::Memory);
+        };
+        self.given += at as u64 + 1;
+        Ok(Some(line))
+    }
+
+    // The last piece, where it has bytes.
+    fn take_last(&mut self) -> Result<Option<Vec<u8>>, LineFault>
+        requires { IsOpen self.old }
+        ensures none { IfOk result (λ line. IfNone line (self.old.held ≡ [])) }
+        ensures some { IfOk result (λ line. IfSome line (λ v. (v.items ≡ self.old.held) × (0 < length v.items))) }
+        ensures same { OnOk result (self.new ≡ record self.old { held = [] }) }
+        ensures err { OnErr result (self.new ≡ self.old) }
+        ensures memory { IfErr result (λ fault. fault ≡ LineFault.Memory) }
+    {
+        let length = self.held.len();
+        if length == 0 {
+            return Ok(None);
+        }
+        let Ok(line) = self.held.take_all() else {
+            return Err(LineFault::Memory);
+        };
+        self.given += length as u64;
+        Ok(Some(line))
+    }
+
+    // Reads on.
+    fn refill<S: Source>(&mut self, source: &mut S) -> Result<(), LineFault>
+        requires open { IsOpen self.old }
+        requires not_ended { self.old.ended ≡ false }
+        ensures took { OnOk result (Took self.old self.new (S.left source.old) (S.left source.new)) }
+        ensures fewer { OnOk result (reads_left self.new < reads_left self.old) }
+        ensures same { OnErr result (self.new ≡ self.old) }
+        ensures kept { OnErr result (Keeps (S.left source.old) (S.left source.new)) }
+        ensures later { S.faults source.old ≤ S.faults source.new }
+        ensures read { IsErrOf result LineFault.Read → Rose (S.faults source.old) (S.faults source.new) }
+        ensures causes { IfErr result (λ fault. (fault ≡ LineFault.Memory) ⊎ (fault ≡ LineFault.Read)) }
+    {
+        let spare = self.total - self.given - self.held.len() as u64;
+        let most = (spare as usize).saturating_add(1);
+        let count = self.held.refill(most, source)?;
+        self.ended = count == 0;
+        Ok(())
+    }
+}

@@ -1,0 +1,128 @@
+ghost use Rattle.std.specs.Prelude.{◌≡◌, ◌-◌, ◌≤◌, [], Some, true, false, length, min, is_ok, is_err, IfOk};
+ghost use Rattle.dbe_io.specs.Causes.{HasCause, TookNothing};
+ghost use Rattle.dbe_io.specs.Memory.{fails_at, one_more};
+ghost use Rattle.dbe_io.specs.Prefix.{Takes};
+
+use crate::{Failed, Sink};
+use dbe_num::Memory;
+use std::alloc::Global;
+use std::marker::Model;
+
+/// A sink in memory with a room that never grows, whose calls fail by a plan.
+#[derive(Drop)]
+pub struct MemSink {
+    bytes: Vec<u8>,
+    room: usize,
+    most: usize,
+    calls: u64,
+    fails: Vec<u64>,
+    faults: u64,
+    idle: u64,
+    finished: bool,
+}
+
+impl Model for MemSink {
+    ghost use Rattle.dbe_io.specs.Memory.{Taking};
+
+    ghost Value = { Taking };
+
+    ghost use Rattle.std.specs.Prelude.{◌≤◌, vec_len, vec_capacity};
+
+    ghost view = { λ s. record { written = s.bytes.items; room = s.room; most = s.most; calls = s.calls; fails = s.fails.items; faults = s.faults; idle = s.idle; finished = s.finished } };
+
+    ghost invariant = { λ s. (vec_len s.bytes ≤ s.room) × (s.room ≤ vec_capacity s.bytes) };
+}
+
+impl MemSink {
+    /// Takes `room` bytes in all. The k-th call, from 1, of `write` and `finish` fails where k is in
+    /// `fails`, and no other.
+    pub fn new(alloc: Global, room: usize, fails: Vec<u64>) -> Result<MemSink, Memory>
+        ensures { IfOk result (λ sink. sink ≡ record { written = []; room = room; most = usize.MAX; calls = 0; fails = fails.items; faults = 0; idle = 0; finished = false }) }
+    {
+        MemSink::in_pieces(alloc, usize::MAX, room, fails)
+    }
+
+    /// Takes at most `most` bytes in a call, and none where `most` is 0.
+    pub fn in_pieces(
+        alloc: Global,
+        most: usize,
+        room: usize,
+        fails: Vec<u64>,
+    ) -> Result<MemSink, Memory>
+        ensures { IfOk result (λ sink. sink ≡ record { written = []; room = room; most = most; calls = 0; fails = fails.items; faults = 0; idle = 0; finished = false }) }
+    {
+        Ok(MemSink {
+            bytes: Vec::with_capacity(alloc, room)?,
+            room,
+            most,
+            calls: 0,
+            fails,
+            faults: 0,
+            idle: 0,
+            finished: false,
+        })
+    }
+
+    /// The bytes that were written.
+    pub fn written(&self) -> &[u8]
+        ensures { result.now ≡ self.now.written }
+    {
+        &self.bytes
+    }
+}
+
+impl Sink for MemSink {
+    ghost written = { λ s. Some s.written };
+
+    ghost faults = { λ s. s.faults };
+
+    ghost idle = { λ s. s.idle };
+
+    ghost finished = { λ s. s.finished };
+
+    fn write(&mut self, piece: &[u8]) -> Result<usize, Failed>
+        ensures bound { IfOk result (λ n. n ≤ length piece.now) }
+        ensures bytes { Takes (Some self.old.written) (Some self.new.written) result piece.now }
+        ensures cause { HasCause self.old.faults self.new.faults result }
+        ensures idle { TookNothing self.old.idle self.new.idle result (length piece.now) }
+        ensures unfinished { self.new.finished ≡ false }
+        ensures calls { self.new.calls ≡ one_more self.old.calls }
+        ensures planned { is_err result ≡ fails_at self.old.fails self.new.calls }
+        ensures plan { self.new.fails ≡ self.old.fails }
+        ensures count { IfOk result (λ n. n ≡ min (min (length piece.now) self.old.most) (self.old.room - length self.old.written)) }
+    {
+        self.finished = false;
+        self.calls = self.calls.saturating_add(1);
+        if self.fails.contains(&self.calls) {
+            self.faults = self.faults.saturating_add(1);
+            return Err(Failed);
+        }
+        let spare = self.room - self.bytes.len();
+        let count = piece.len().min(self.most).min(spare);
+        if self.bytes.extend_from_slice(&piece[..count]).is_err() {
+            unreachable!()
+        }
+        if count == 0 && !piece.is_empty() {
+            self.idle = self.idle.saturating_add(1);
+        }
+        Ok(count)
+    }
+
+    fn finish(&mut self) -> Result<(), Failed>
+        ensures written { self.new.written ≡ self.old.written }
+        ensures cause { HasCause self.old.faults self.new.faults result }
+        ensures idle { self.old.idle ≤ self.new.idle }
+        ensures finished { self.new.finished ≡ is_ok result }
+        ensures calls { self.new.calls ≡ one_more self.old.calls }
+        ensures planned { is_err result ≡ fails_at self.old.fails self.new.calls }
+        ensures plan { self.new.fails ≡ self.old.fails }
+    {
+        self.calls = self.calls.saturating_add(1);
+        self.finished = !self.fails.contains(&self.calls);
+        if !self.finished {
+            self.faults = self.faults.saturating_add(1);
+            return Err(Failed);
+        }
+        Ok(())
+    }
+}

@@ -1,0 +1,97 @@
+ghost use Rattle.std.specs.Prelude.{◌≡◌, ◌<◌, ◌≤◌, Some, length, take, min, is_err, IfOk};
+ghost use Rattle.std.specs.Io.{ReadsAtMost};
+ghost use Rattle.std.specs.Io.KnownBytes.{ReadConsumes};
+ghost use Rattle.dbe_io.specs.Causes.{HasCause};
+ghost use Rattle.dbe_io.specs.Memory.{fails_at, one_more};
+
+use crate::{Failed, Source};
+use std::marker::Model;
+
+/// A source in memory, whose calls fail by a plan.
+#[derive(Drop)]
+pub struct MemSource {
+    bytes: Vec<u8>,
+    at: usize,
+    most: usize,
+    calls: u64,
+    fails: Vec<u64>,
+    faults: u64,
+}
+
+impl Model for MemSource {
+    ghost use Rattle.dbe_io.specs.Memory.{Giving};
+
+    ghost Value = { Giving };
+
+    ghost use Rattle.std.specs.Prelude.{◌<◌, ◌≤◌, drop, length};
+
+    ghost view = { λ s. record { left = drop s.at s.bytes.items; most = s.most; calls = s.calls; fails = s.fails.items; faults = s.faults } };
+
+    ghost invariant = { λ s. (s.at ≤ length s.bytes.items) × (0 < s.most) };
+}
+
+impl MemSource {
+    /// Gives these bytes. The k-th call, from 1, fails where k is in `fails`, and no other.
+    pub fn new(bytes: Vec<u8>, fails: Vec<u64>) -> MemSource
+        ensures { result ≡ record { left = bytes.items; most = usize.MAX; calls = 0; fails = fails.items; faults = 0 } }
+    {
+        MemSource::in_pieces(bytes, usize::MAX, fails)
+    }
+
+    /// Gives at most `most` of these bytes in a call.
+    pub fn in_pieces(bytes: Vec<u8>, most: usize, fails: Vec<u64>) -> MemSource
+        requires { 0 < most }
+        ensures { result ≡ record { left = bytes.items; most = most; calls = 0; fails = fails.items; faults = 0 } }
+    {
+        MemSource {
+            bytes,
+            at: 0,
+            most,
+            calls: 0,
+            fails,
+            faults: 0,
+        }
+    }
+
+    /// The bytes still to come.
+    pub fn left(&self) -> &[u8]
+        ensures { result.now ≡ self.now.left }
+    {
+        &self.bytes[self.at..]
+    }
+}
+
+impl Source for MemSource {
+    ghost left = { λ s. Some s.left };
+
+    ghost faults = { λ s. s.faults };
+
+    fn read(&mut self, out: &mut [u8]) -> Result<usize, Failed>
+        ensures bound { ReadsAtMost result out.new }
+        ensures bytes { ReadConsumes (Some self.old.left) (Some self.new.left) result out.new }
+        ensures cause { HasCause self.old.faults self.new.faults result }
+        ensures calls { self.new.calls ≡ one_more self.old.calls }
+        ensures planned { is_err result ≡ fails_at self.old.fails self.new.calls }
+        ensures plan { self.new.fails ≡ self.old.fails }
+        ensures count { IfOk result (λ n. n ≡ min (min (length self.old.left) (length out.new)) self.old.most) }
+    {
+        self.calls = self.calls.saturating_add(1);
+        if self.fails.contains(&self.calls) {
+            self.faults = self.faults.saturating_add(1);
+            return Err(Failed);
+        }
+        let count = copy_front(&self.bytes[self.at..], self.most, out);
+        self.at += count;
+        Ok(count)
+    }
+}
+
+// Copies as many bytes as there are and fit, and at most `most`.
+fn copy_front(from: &[u8], most: usize, out: &mut [u8]) -> usize
+    ensures count { result ≡ min (min (length from.now) (length out.new)) most }
+    ensures same { take result out.new ≡ take result from.now }
+{
+    let count = from.len().min(out.len()).min(most);
+    out[..count].copy_from_slice(&from[..count]);
+    count
+}

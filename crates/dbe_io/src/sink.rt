@@ -1,0 +1,66 @@
+ghost use Rattle.std.specs.Prelude.{◌≡◌, ◌≤◌, List, ℕ, Bool, false, length, is_ok, IfOk, OnOk, IsErrOf};
+ghost use Rattle.std.specs.Io.KnownBytes.{Appends};
+ghost use Rattle.std.specs.declared.option.Option.{Option};
+ghost use Rattle.dbe_io.specs.Causes.{HasCause, Rose, TookNothing};
+ghost use Rattle.dbe_io.specs.Prefix.{AppendsPrefix, Takes};
+
+use crate::Failed;
+
+/// What bytes go to.
+pub trait Sink {
+    /// The bytes that were written, where the sink tells them.
+    ghost written: { Self → Option (List ℕ) };
+
+    /// How often it has failed. The count stays at its greatest value.
+    ghost faults: { Self → ℕ };
+
+    /// How often it took nothing of a piece that has bytes. The count stays at its greatest value.
+    ghost idle: { Self → ℕ };
+
+    /// Whether the last call was a `finish` that was Ok.
+    ghost finished: { Self → Bool };
+
+    /// Takes the front of the piece. Where it fails it may have taken some front too.
+    fn write(&mut self, piece: &[u8]) -> Result<usize, Failed>
+        ensures bound { IfOk result (λ n. n ≤ length piece.now) }
+        ensures bytes { Takes (written self.old) (written self.new) result piece.now }
+        ensures cause { HasCause (faults self.old) (faults self.new) result }
+        ensures idle { TookNothing (idle self.old) (idle self.new) result (length piece.now) }
+        ensures unfinished { finished self.new ≡ false };
+
+    /// Hands on all that was written.
+    fn finish(&mut self) -> Result<(), Failed>
+        ensures written { written self.new ≡ written self.old }
+        ensures cause { HasCause (faults self.old) (faults self.new) result }
+        ensures idle { idle self.old ≤ idle self.new }
+        ensures finished { finished self.new ≡ is_ok result };
+}
+
+/// Why not all bytes were written.
+#[derive(Clone, Copy, Debug, PartialEq, Eq)]
+pub enum WriteFault {
+    /// The sink failed.
+    Failed,
+    /// The sink took nothing of the bytes that were left.
+    TookNothing,
+}
+
+/// Writes all the bytes, or a front of them where it answers a fault. Takes no memory.
+pub fn write_all<O: Sink>(sink: &mut O, bytes: &[u8]) -> Result<(), WriteFault>
+    ensures ok { OnOk result (Appends (O.written sink.old) (O.written sink.new) bytes.now) }
+    ensures prefix { AppendsPrefix (O.written sink.old) (O.written sink.new) bytes.now }
+    ensures later { O.faults sink.old ≤ O.faults sink.new }
+    ensures idle_later { O.idle sink.old ≤ O.idle sink.new }
+    ensures failed { IsErrOf result WriteFault.Failed → Rose (O.faults sink.old) (O.faults sink.new) }
+    ensures took_nothing { IsErrOf result WriteFault.TookNothing → Rose (O.idle sink.old) (O.idle sink.new) }
+{
+    let mut at = 0;
+    'pieces: while at < bytes.len() {
+        match sink.write(&bytes[at..]) {
+            Ok(0) => return Err(WriteFault::TookNothing),
+            Ok(count) => at += count,
+            Err(Failed) => return Err(WriteFault::Failed),
+        }
+    }
+    Ok(())
+}

@@ -1,0 +1,22 @@
+ghost use Rattle.std.specs.Prelude.{List, ℕ};
+ghost use Rattle.std.specs.Io.{ReadsAtMost};
+ghost use Rattle.std.specs.Io.KnownBytes.{ReadConsumes};
+ghost use Rattle.std.specs.declared.option.Option.{Option};
+ghost use Rattle.dbe_io.specs.Causes.{HasCause};
+
+use crate::Failed;
+
+/// What bytes come from.
+pub trait Source {
+    /// The bytes that are still to come, where the source tells them.
+    ghost left: { Self → Option (List ℕ) };
+
+    /// How often it has failed. The count stays at its greatest value.
+    ghost faults: { Self → ℕ };
+
+    /// Moves the next bytes into `out`, and none into an `out` with room only at the end.
+    fn read(&mut self, out: &mut [u8]) -> Result<usize, Failed>
+        ensures bound { ReadsAtMost result out.new }
+        ensures bytes { ReadConsumes (left self.old) (left self.new) result out.new }
+        ensures cause { HasCause (faults self.old) (faults self.new) result };
+}

@@ -1,0 +1,56 @@
+ghost use Rattle.std.specs.Prelude.{None};
+
+use crate::{Failed, Sink};
+use std::io::Print;
+
+/// The standard output, of which no bytes are told.
+#[derive(Drop)]
+pub struct StdSink<P> {
+    out: P,
+    faults: u64,
+    idle: u64,
+    finished: bool,
+}
+
+impl<P: Print> StdSink<P> {
+    /// Prints by the runtime, or by its standard output.
+    pub fn new(out: P) -> StdSink<P> {
+        StdSink {
+            out,
+            faults: 0,
+            idle: 0,
+            finished: false,
+        }
+    }
+}
+
+impl<P: Print> Sink for StdSink<P> {
+    ghost written = { λ _. None };
+
+    ghost faults = { λ s. s.faults };
+
+    ghost idle = { λ s. s.idle };
+
+    ghost finished = { λ s. s.finished };
+
+    fn write(&mut self, piece: &[u8]) -> Result<usize, Failed> {
+        self.finished = false;
+        match self.out.write_some(piece) {
+            Ok(0) => {
+                self.idle = self.idle.saturating_add(1);
+                Ok(0)
+            }
+            Ok(count) => Ok(count),
+            Err(_) => {
+                self.faults = self.faults.saturating_add(1);
+                Err(Failed)
+            }
+        }
+    }
+
+    // Each write reaches the system at once, so there is nothing to hand on.
+    fn finish(&mut self) -> Result<(), Failed> {
+        self.finished = true;
+        Ok(())
+    }
+}
