@@ -1,0 +1,13 @@
+use Rattle.std.proofs.Common.{◌≡◌, ◌≤◌, ◌*◌, take, length}
+use Rattle.sha2.specs.Hashers.{Holds512}
+use Rattle.sha2.specs.Sha512.{sha512}
+use Rattle.dbe_kdf.specs.Hmac.{key_block, xor_pad}
+use Rattle.dbe_kdf.specs.Hkdf.{hkdf_block, hkdf_blocks}
+use Rattle.dbe_kdf.proofs.hkdf.expand.Given as goal
+
+abbrev pub invariant-loop-i : goal.invariant-loop-i
+invariant-loop-i l = record {
+  fits : l.last_len ≤ 64;
+  last : take l.last_len l.last ≡ hkdf_block l.key l.info l.i;
+  done : take (64 * l.i) l.out ≡ take (length l.out) (hkdf_blocks l.key l.info l.i);
+}
