@@ -11,8 +11,7 @@ pub fn hkdf_prefix_law()
         → take m (hkdf ikm salt info n) ≡ hkdf ikm salt info m }
     ensures empty_salt { (ikm info : List ℕ) (n : ℕ)
         → hkdf ikm [] info n ≡ hkdf ikm (replicate 64 0) info n }
-{
-}
+{}
 
 /// HMAC-SHA-384 gives 48 bytes, HMAC-SHA-512 gives 64, and HKDF as many as are asked for.
 pub fn output_law()
@@ -23,5 +22,4 @@ pub fn output_law()
     ensures hkdf_length { (ikm salt info : List ℕ) (n : ℕ) → length (hkdf ikm salt info n) ≡ n }
     ensures hkdf_bytes { (ikm salt info : List ℕ) (n : ℕ)
         → All (λ b. b < 256) (hkdf ikm salt info n) }
-{
-}
+{}

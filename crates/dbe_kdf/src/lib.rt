@@ -6,7 +6,6 @@ mod block;
 mod hkdf;
 mod hmac;
 mod laws;
-
 #[cfg(test)]
 mod tests;
 
