@@ -1,5 +1,5 @@
 -- The blocks of HKDF's output: fewer of them are the first bytes of more.
-use Rattle.std.proofs.Common.{◌≡◌, ℕ, zero, suc, ◌+◌, ◌-◌, ◌*◌, ◌/◌, ◌<◌, ◌≤◌, List, [], ◌∷◌, ◌++◌, length, take, drop, refl, ap, ◌∙◌, sym, arith, add-one, add-zero, add-suc}
+use Rattle.std.proofs.Common.{◌≡◌, ℕ, zero, suc, ◌+◌, ◌-◌, ◌*◌, ◌/◌, ◌≤◌, List, length, take, refl, arith, add-zero, add-suc}
 use Rattle.std.proofs.lemmas.List.{take-take, take-append-le}
 use Rattle.dbe_kdf.specs.Hkdf.{hkdf, hkdf_expand, hkdf_extract, hkdf_block, hkdf_blocks}
 use Rattle.dbe_kdf.proofs.Outputs.{length-hkdf_blocks}

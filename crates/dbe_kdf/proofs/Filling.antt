@@ -1,5 +1,5 @@
 -- How HKDF's blocks fill a slice, one after another.
-use Rattle.std.proofs.Common.{◌≡◌, ℕ, zero, suc, ◌+◌, ◌-◌, ◌*◌, ◌/◌, ◌<◌, ◌≤◌, List, [], ◌∷◌, ◌++◌, length, take, drop, min, refl, ap, ◌∙◌, sym, arith, add-one, length-append, length-drop}
+use Rattle.std.proofs.Common.{◌≡◌, ℕ, suc, ◌+◌, ◌-◌, ◌*◌, ◌/◌, ◌<◌, List, [], ◌∷◌, ◌++◌, length, take, drop, min, refl, ap, ◌∙◌, sym, arith, add-one, length-append, length-drop}
 use Rattle.std.proofs.lemmas.List.{take_all, take_min, length-take-le}
 use Rattle.std.proofs.lemmas.Slice.{take-put_mid}
 use Rattle.sha2.specs.Sha512.{sha512}

@@ -78,16 +78,19 @@ fn rfc_4231(rt: HostRuntime) {
     }
 }
 
-// The first 65 bytes, the SHA-512 of all 16,320, and what is in front of a shorter output.
-fn derives(rt: &impl Abort, ikm: &[u8], salt: &[u8], info: &[u8], front: &[u8], all: &[u8]) {
+// Outputs of 65 bytes, of 16,320 (by their SHA-512), and of fewer bytes, which leave the rest of a slice.
+fn derives(rt: &impl Abort, ikm: &[u8], salt: &[u8], info: &[u8], want: &[u8], want_most: &[u8]) {
+    let mut front = [0u8; 65];
+    hkdf512(ikm, salt, info, &mut front);
+    assert!(rt; spells(want, &front));
     let mut most = [0u8; 16320];
     hkdf512(ikm, salt, info, &mut most);
-    assert!(rt; spells(front, &most[..65]));
-    assert!(rt; spells(all, Sha512::digest(most.as_slice()).as_slice()));
-    for n in [0, 1, 64, 65] {
+    let digest = Sha512::digest(&most);
+    assert!(rt; spells(want_most, &digest));
+    for n in [0, 1, 64] {
         let mut out = [0u8; 65];
         hkdf512(ikm, salt, info, &mut out[..n]);
-        assert!(rt; out[..n] == most[..n]);
+        assert!(rt; out[..n] == front[..n]);
         assert!(rt; out[n..] == [0u8; 65][n..]);
     }
 }

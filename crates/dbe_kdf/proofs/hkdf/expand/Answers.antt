@@ -1,7 +1,5 @@
-use Rattle.std.proofs.Common.{◌≡◌, ◌+◌, ◌*◌, ◌-◌, ◌++◌, ◌∷◌, [], take, length, ap, ◌∙◌, sym, arith, rules}
+use Rattle.std.proofs.Common.{◌≡◌, ◌+◌, ◌*◌, ◌-◌, length, ◌∙◌, arith, rules}
 use Rattle.std.proofs.lemmas.List.{take_all}
-use Rattle.sha2.specs.Sha512.{sha512}
-use Rattle.dbe_kdf.specs.Hmac.{hmac}
 use Rattle.dbe_kdf.specs.Hkdf.{hkdf_block}
 use Rattle.dbe_kdf.proofs.Filling.{hkdf_block_none, hkdf_blocks_none, hkdf_block_next, filled_more, filled_all}
 use Rattle.dbe_kdf.proofs.hkdf.expand.Goals as goal

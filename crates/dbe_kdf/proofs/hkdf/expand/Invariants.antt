@@ -1,7 +1,4 @@
 use Rattle.std.proofs.Common.{◌≡◌, ◌≤◌, ◌*◌, take, length}
-use Rattle.sha2.specs.Hashers.{Holds512}
-use Rattle.sha2.specs.Sha512.{sha512}
-use Rattle.dbe_kdf.specs.Hmac.{key_block, xor_pad}
 use Rattle.dbe_kdf.specs.Hkdf.{hkdf_block, hkdf_blocks}
 use Rattle.dbe_kdf.proofs.hkdf.expand.Given as goal
 
