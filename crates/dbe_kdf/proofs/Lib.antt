@@ -1,4 +1,4 @@
-pub mod Masks
+pub mod Maps
 pub mod Outputs
 pub mod Blocks
 pub mod Filling

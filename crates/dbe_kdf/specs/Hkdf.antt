@@ -11,7 +11,7 @@ salt_or_zeros salt = if length salt == 0 then replicate 64 0 else salt
 unfoldable pub hkdf_extract : List ℕ → List ℕ → List ℕ
 hkdf_extract salt ikm = hmac sha512 (salt_or_zeros salt) ikm
 
--- T(n): T(0) is empty, and T(n) is the HMAC of T(n-1) | info | n (2.3)
+-- T(n): T(0) is empty, and T(n) is the HMAC of T(n-1) | info | n, where n is one byte, from 1 to 255 (2.3)
 unfoldable pub hkdf_block : List ℕ → List ℕ → ℕ → List ℕ
 hkdf_block prk info zero = []
 hkdf_block prk info (suc n) = hmac sha512 prk (hkdf_block prk info n ++ info ++ suc n ∷ [])
@@ -21,7 +21,8 @@ unfoldable pub hkdf_blocks : List ℕ → List ℕ → ℕ → List ℕ
 hkdf_blocks prk info zero = []
 hkdf_blocks prk info (suc n) = hkdf_blocks prk info n ++ hkdf_block prk info (suc n)
 
--- the output keying material: the first n bytes of T(1) | ... | T(N), where N is n / HashLen rounded up (2.3)
+-- the output keying material OKM: the first n bytes of T(1) | ... | T(N), where N is n / HashLen rounded up,
+-- for n up to 255 * HashLen (2.3)
 unfoldable pub hkdf_expand : List ℕ → List ℕ → ℕ → List ℕ
 hkdf_expand prk info n = take n (hkdf_blocks prk info ((n + 63) / 64))
 

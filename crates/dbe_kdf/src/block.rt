@@ -1,6 +1,6 @@
 // The first block of each of the two messages that an HMAC hashes.
 
-ghost use Rattle.std.specs.Prelude.{◌≡◌, ◌≤◌, length, map, bit_xor};
+ghost use Rattle.std.specs.Prelude.{◌≡◌, ◌≤◌, length};
 ghost use Rattle.sha2.specs.Sha512.{sha384, sha512};
 ghost use Rattle.dbe_kdf.specs.Hmac.{key_block, xor_pad, zero_padded};
 
@@ -8,6 +8,7 @@ use sha2::{Digest, Sha384, Sha512};
 
 pub(crate) const BLOCK: usize = 128;
 
+// The bytes of ipad and opad.
 pub(crate) const INNER_PAD: u8 = 0x36;
 
 pub(crate) const OUTER_PAD: u8 = 0x5c;
@@ -35,7 +36,7 @@ pub(crate) fn key_block512(key: &[u8]) -> [u8; BLOCK]
 }
 
 // The key with zeros up to a block.
-pub(crate) fn zero_padded(key: &[u8]) -> [u8; BLOCK]
+fn zero_padded(key: &[u8]) -> [u8; BLOCK]
     requires { length key.now ≤ 128 }
     ensures { result ≡ zero_padded key.now }
 {
@@ -45,11 +46,11 @@ pub(crate) fn zero_padded(key: &[u8]) -> [u8; BLOCK]
     block
 }
 
-// A hasher that holds the key's block under a pad.
-pub(crate) fn keyed<D: Digest>(key: &[u8; BLOCK], pad: u8) -> D
-    ensures { D.holds result (xor_pad pad key.now) }
+// A hasher that has taken in the block with each byte xored with the pad.
+pub(crate) fn keyed<D: Digest>(block: &[u8; BLOCK], pad: u8) -> D
+    ensures { D.holds result (xor_pad pad block.now) }
 {
-    let mut block = *key;
+    let mut block = *block;
     xor_all(&mut block, pad);
     D::new_with_prefix(block.as_slice())
 }

@@ -7,7 +7,7 @@ ghost use Rattle.dbe_kdf.specs.Hmac.{hmac};
 use crate::block::{INNER_PAD, OUTER_PAD, key_block384, key_block512, keyed};
 use sha2::{Digest, Sha384, Sha512};
 
-/// HMAC-SHA-384 of `text` under `key` (RFC 2104). Both may have any length.
+/// HMAC-SHA-384 of `text` under `key` (RFC 2104). Both may have any length; a key of more than 128 bytes counts by its SHA-384.
 #[tactic(auto, unfolding(crate::specs::Hmac::hmac))]
 pub fn hmac384(key: &[u8], text: &[u8]) -> [u8; 48]
     ensures { result ≡ hmac sha384 key.now text.now }
@@ -20,7 +20,7 @@ pub fn hmac384(key: &[u8], text: &[u8]) -> [u8; 48]
     outer.finalize()
 }
 
-/// HMAC-SHA-512 of `text` under `key` (RFC 2104). Both may have any length.
+/// HMAC-SHA-512 of `text` under `key` (RFC 2104). Both may have any length; a key of more than 128 bytes counts by its SHA-512.
 #[tactic(auto, unfolding(crate::specs::Hmac::hmac))]
 pub fn hmac512(key: &[u8], text: &[u8]) -> [u8; 64]
     ensures { result ≡ hmac sha512 key.now text.now }

@@ -6,7 +6,7 @@ ghost use Rattle.dbe_kdf.specs.Hkdf.{hkdf};
 ghost use Rattle.dbe_kdf.specs.Hmac.{hmac};
 
 /// The first bytes of HKDF's output do not depend on how many are asked for, and an empty salt is 64 zero bytes.
-pub fn hkdf_prefix_law()
+pub fn hkdf_law()
     ensures prefix { (ikm salt info : List ℕ) (m n : ℕ) → m ≤ n
         → take m (hkdf ikm salt info n) ≡ hkdf ikm salt info m }
     ensures empty_salt { (ikm info : List ℕ) (n : ℕ)

@@ -11,4 +11,4 @@ mod tests;
 
 pub use hkdf::hkdf512;
 pub use hmac::{hmac384, hmac512};
-pub use laws::{hkdf_prefix_law, output_law};
+pub use laws::{hkdf_law, output_law};

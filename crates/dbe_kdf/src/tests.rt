@@ -1,4 +1,4 @@
-use crate::{hkdf_prefix_law, hkdf512, hmac384, hmac512, output_law};
+use crate::{hkdf_law, hkdf512, hmac384, hmac512, output_law};
 use sha2::{Digest, Sha512};
 use std::process::Abort;
 
@@ -135,6 +135,6 @@ fn derived_keys(rt: HostRuntime) {
 
 #[test]
 fn laws() {
-    hkdf_prefix_law();
+    hkdf_law();
     output_law();
 }

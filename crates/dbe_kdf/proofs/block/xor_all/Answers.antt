@@ -1,5 +1,5 @@
 use Rattle.std.proofs.Common.{arith}
-use Rattle.dbe_kdf.proofs.Masks.{is_map}
+use Rattle.dbe_kdf.proofs.Maps.{is_map}
 use Rattle.dbe_kdf.proofs.block.xor_all.Goals as goal
 
 pub returns : goal.returns

@@ -1,6 +1,6 @@
 use Rattle.dbe_kdf.proofs.Blocks.{take-hkdf}
 use Rattle.dbe_kdf.proofs.EmptySalt.{hkdf-empty_salt}
-use Rattle.dbe_kdf.proofs.laws.hkdf_prefix_law.Goals as goal
+use Rattle.dbe_kdf.proofs.laws.hkdf_law.Goals as goal
 
 pub returns-clause-prefix : goal.returns-clause-prefix
 returns-clause-prefix c = take-hkdf
