@@ -1,0 +1,5 @@
+pub mod Maps
+pub mod Outputs
+pub mod Blocks
+pub mod Filling
+pub mod EmptySalt
