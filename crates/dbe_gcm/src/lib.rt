@@ -5,6 +5,8 @@ mod hash;
 mod laws;
 mod product;
 mod seal;
+#[cfg(test)]
+mod tests;
 
 pub use laws::opens_what_was_sealed;
 pub use seal::{open_in_place, seal_in_place};
