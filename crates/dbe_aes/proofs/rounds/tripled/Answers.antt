@@ -1,0 +1,5 @@
+use Rattle.dbe_aes.proofs.Tables.{triple_is_product}
+use Rattle.dbe_aes.proofs.rounds.tripled.Goals as goal
+
+pub returns : goal.returns
+returns c = rw c.doubled.ensures (triple_is_product c.args.a c.ranges.a.fits)

@@ -1,0 +1,5 @@
+use Rattle.dbe_aes.proofs.Tables.{substitution_entry}
+use Rattle.dbe_aes.proofs.substitution.substitute.Goals as goal
+
+pub returns : goal.returns
+returns c = substitution_entry c.args.x c.ranges.x.fits

@@ -1,0 +1,5 @@
+pub mod Bytes
+pub mod States
+pub mod Words
+pub mod Cipher
+pub mod Counters

@@ -1,0 +1,4 @@
+pub mod Xor
+pub mod Products
+pub mod Hashes
+pub mod Tags

@@ -1,0 +1,5 @@
+pub mod Blocks
+pub mod Hash
+pub mod Gcm
+pub use Rattle.dbe_aes.specs.Cipher
+pub use Rattle.dbe_aes.specs.Counters
