@@ -1,11 +1,13 @@
-ghost use Rattle.std.specs.Prelude.{◌≡◌, ◌+◌, ◌≤◌, ◌<◌, ◌^◌, ◌++◌, length, true};
+ghost use Rattle.std.specs.Prelude.{◌≡◌, ◌+◌, ◌*◌, ◌≤◌, ◌<◌, ◌^◌, ◌++◌, length, true};
 ghost use Rattle.std.specs.Str.{all_ascii_digits};
-ghost use Rattle.dbe_num.specs.Decimal.{IsNormal, zero_number};
+ghost use Rattle.dbe_num.specs.Decimal.{IsNormal, zero_number, number_order};
+ghost use Rattle.std.specs.Ordering.{nat_cmp};
 ghost use Rattle.dbe_num.specs.Reading.{number_of};
 ghost use Rattle.dbe_num.specs.Numeral.{without_front_zeros, without_end_zeros, number_of_significant, number_of_digits};
 
 use crate::NumberFault;
 use crate::numeral::{Shift, number_in, read_shift, split_digits, split_fraction, split_sign, without_leading, without_trailing};
+use std::cmp::Ordering;
 use std::marker::Model;
 
 /// A decimal number of at most 38 digits, zero or from 10^-130 to below 10^126 in size.
@@ -54,6 +56,30 @@ impl Number {
             return Err(NumberFault::NotNumber);
         }
         of_digits(negative, whole, fraction, shift)
+    }
+
+    /// The order of the two values. Takes no memory.
+    pub fn compare(&self, other: &Number) -> Ordering
+        ensures { result ≡ number_order self.now other.now }
+    {
+        match (self.negative, other.negative) {
+            (false, false) => self.compare_sizes(other),
+            (true, true) => other.compare_sizes(self),
+            (true, false) => Ordering::Less,
+            (false, true) => Ordering::Greater,
+        }
+    }
+
+    fn compare_sizes(&self, other: &Number) -> Ordering
+        ensures { result ≡ nat_cmp (self.now.digits * 10 ^ self.now.place) (other.now.digits * 10 ^ other.now.place) }
+    {
+        let place = self.place();
+        let other_place = other.place();
+        if place >= other_place {
+            compare_raised(self.digits, place - other_place, other.digits)
+        } else {
+            compare_raised(other.digits, other_place - place, self.digits).reverse()
+        }
     }
 
     fn at_place(negative: bool, digits: u128, place: u16) -> Number
@@ -147,4 +173,21 @@ fn of_significant(
         number_in(whole, fraction),
         place as u16,
     ))
+}
+
+/// Compares digits * 10^by with other digits.
+fn compare_raised(digits: u128, by: u16, other: u128) -> Ordering
+    requires { other < 10 ^ 38 }
+    ensures { result ≡ nat_cmp (digits * 10 ^ by) other }
+{
+    if digits == 0 {
+        return digits.cmp(&other);
+    }
+    if by >= 38 {
+        return Ordering::Greater;
+    }
+    match digits.checked_mul(10u128.pow(u32::from(by))) {
+        Some(raised) => raised.cmp(&other),
+        None => Ordering::Greater,
+    }
 }
