@@ -1,0 +1,4 @@
+pub mod Digits
+pub mod Significant
+pub mod Parsed
+pub mod Compared
