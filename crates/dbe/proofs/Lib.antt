@@ -1,1 +1,4 @@
 pub mod Entries
+pub mod Tables
+pub mod Results
+pub mod Walks

@@ -1,25 +1,23 @@
 -- The rows of a table, in key order.
-use Rattle.std.specs.Prelude.{◌≡◌, ℕ, true, List, [], ◌∷◌, filter}
-use Rattle.std.specs.Ordering.{match_ordering}
-use Rattle.std.specs.declared.cmp.Ordering.TheVariants.{Less}
+use Rattle.std.specs.Prelude.{◌≡◌, ℕ, true, List, [], ◌∷◌, filter, map}
+use Rattle.std.specs.List.{All}
+use Rattle.std.specs.List.Sorted.{IsStrictlySortedBy}
+use Rattle.std.specs.Ordering.{match_ordering, nat_cmp}
+use Rattle.std.specs.Cmp.Lexicographic.{slice_cmp}
 use Rattle.dbe_values.specs.declared.value.AttrValue.{AttrValue}
 use Rattle.dbe_values.specs.declared.key.KeySchema.{KeySchema}
-use Rattle.dbe_values.specs.Keys.{has_key, key_order}
+use Rattle.dbe_values.specs.Keys.{has_key, key_of, key_order}
 use Rattle.dbe_cond.specs.declared.wanted.Wanted.{Wanted}
 use Rattle.dbe_cond.specs.Wants.{wants}
 
+-- a row, as its attributes
 abbrev pub Row : Type 0
 Row = List (List ℕ × AttrValue)
 
--- the keys of rows are greater than that of one
-abbrev pub AreAfter : KeySchema → List (List ℕ × AttrValue) → List (List (List ℕ × AttrValue)) → Type 0
-AreAfter schema row [] = Unit {0}
-AreAfter schema row (other ∷ others) = (key_order schema row other ≡ Less) × AreAfter schema row others
-
 -- rows with lawful keys, each key once, in key order
-abbrev pub IsTable : KeySchema → List (List (List ℕ × AttrValue)) → Type 0
-IsTable schema [] = Unit {0}
-IsTable schema (row ∷ rows) = (has_key schema row ≡ true) × AreAfter schema row rows × IsTable schema rows
+pub record IsTable (schema : KeySchema) (rows : List (List (List ℕ × AttrValue))) : Type 0 where
+  pub keys : All (λ row. has_key schema row ≡ true) rows
+  pub order : IsStrictlySortedBy (slice_cmp nat_cmp) (map (key_of schema) rows)
 
 -- the row in place of the one of its key, else where its key belongs
 abbrev pub put_row : KeySchema → List (List ℕ × AttrValue) → List (List (List ℕ × AttrValue)) → List (List (List ℕ × AttrValue))

@@ -1,18 +1,21 @@
 ghost use Rattle.std.specs.Prelude.{◌≡◌, ◌==◌, ◌≤◌, ℕ, length, take, drop, option_map, IfSome};
+ghost use Rattle.std.specs.Str.{IsUtf8};
 ghost use Rattle.dbe_cond.specs.Test.{is_space, is_part, is_taken, is_keyword, is_name, is_placeholder, after, front, behind, test_of};
+
+use std::str;
 
 /// A test as it stands in a condition's text: a name and a placeholder.
 #[derive(Clone, Copy, Debug)]
 pub struct Test<'a> {
-    pub name: &'a [u8],
-    pub placeholder: &'a [u8],
+    pub name: &'a str,
+    pub placeholder: &'a str,
 }
 
 /// The name and the placeholder of a condition's text that is one test with `=`, else none.
-pub fn test_of(text: &[u8]) -> Option<Test<'_>>
+pub fn test_of(text: &str) -> Option<Test<'_>>
     ensures { option_map (λ t. (t.name.now, t.placeholder.now)) result ≡ test_of text.now }
 {
-    let start = after_spaces(text);
+    let start = after_spaces(text.as_bytes());
     let end = parts_len(start);
     let name = &start[..end];
     let others = behind(b'=', after_spaces(&start[end..]))?;
@@ -23,9 +26,20 @@ pub fn test_of(text: &[u8]) -> Option<Test<'_>>
         return None;
     }
     Some(Test {
-        name,
-        placeholder: &colon[..last + 1],
+        name: as_text(name),
+        placeholder: as_text(&colon[..last + 1]),
     })
+}
+
+// Bytes that are a text.
+fn as_text(bytes: &[u8]) -> &str
+    requires { IsUtf8 bytes.now }
+    ensures { result.now ≡ bytes.now }
+{
+    match str::from_utf8(bytes) {
+        Ok(text) => text,
+        Err(_) => unreachable!(),
+    }
 }
 
 /// Whether bytes are a placeholder for a value: a colon, and at least one letter, digit or `_`.

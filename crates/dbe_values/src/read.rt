@@ -25,7 +25,7 @@ fn attributes_in(alloc: Global, map: &Map<String, Value>) -> Result<Option<Item>
         if !is_name(name.as_str()) {
             return Ok(None);
         }
-        let Some(text) = text_in(value) else {
+        let Some(text) = text_of_json(value) else {
             return Ok(None);
         };
         item.push(
@@ -42,8 +42,8 @@ fn is_name(name: &str) -> bool
     !name.is_empty() && name.len() <= 255
 }
 
-// The text of a value of type S.
-fn text_in(value: &Value) -> Option<&str>
+/// The text of a JSON value that spells a value of type S, else none.
+pub fn text_of_json(value: &Value) -> Option<&str>
     ensures { option_map (λ t. t.now) result ≡ text_in (view value.now) }
 {
     if size_of(value) != 1 {

@@ -7,5 +7,5 @@ use Rattle.dbe_values.proofs.read.attributes_in.Goals as goal
 pub loop-name-preserved : goal.loop-name-preserved
 loop-name-preserved c =
     let named : is_name (string_bytes c.in-Some.name.now) ≡ true = search rules in
-    let spelled : text_in (view c.in-Some.value.now) ≡ Some c.in-Some-text_in.text.now = search rules in
+    let spelled : text_in (view c.in-Some.value.now) ≡ Some c.in-Some-text_of_json.text.now = search rules in
     attributes_step c.loop-name.item _ _ _ (c.in-Some.name.now, c.in-Some.value.now) _ _ c.in-Some.ensures.steps named spelled (search rules) c.loop-name.invariant

@@ -1,0 +1,67 @@
+-- Items under their keys as a map, what a script makes of it, and which rows stand for it.
+use Rattle.std.specs.Prelude.{◌≡◌, ℕ, Bool, true, List, [], ◌∷◌, ◌++◌, filter, bytes_eq, Option, Some, None, option_and_then, codes, if◌then◌else◌}
+use Rattle.std.specs.List.{All}
+use Rattle.std.specs.Ordering.{is_lt}
+use Rattle.serde_json.specs.Data.{Data}
+use Rattle.serde_json.specs.Find.{get}
+use Rattle.dbe_values.specs.declared.value.AttrValue.{AttrValue}
+use Rattle.dbe_values.specs.declared.key.KeySchema.{KeySchema}
+use Rattle.dbe_values.specs.Json.{json_of}
+use Rattle.dbe_values.specs.Keys.{key_order}
+use Rattle.dbe_cond.specs.declared.cond.Cond.{Cond}
+use Rattle.dbe_cond.specs.Meaning.{holds}
+use Rattle.dbe.specs.Setting.{Setting}
+use Rattle.dbe.specs.Rows.{IsTable}
+use Rattle.dbe.specs.Requests.{is_acceptable, put_in, query_in}
+use Rattle.dbe.specs.Texts.{put_text, select_text}
+
+-- a map from keys to items, as the list of its items
+abbrev pub Items : Type 0
+Items = List (List (List ℕ × AttrValue))
+
+-- the map with an item at its key: the items of smaller keys, the item, and those of greater keys
+abbrev pub put_item : KeySchema → List (List ℕ × AttrValue) → Items → Items
+put_item schema item m = filter (λ other. is_lt (key_order schema other item)) m ++ item ∷ filter (λ other. is_lt (key_order schema item other)) m
+
+-- the item that a line puts, where it is a put
+abbrev pub put_of : List ℕ → Option (List (List ℕ × AttrValue))
+put_of line = put_in (option_and_then (get (codes "put")) (json_of line))
+
+-- the condition that a line asks, where it is a query
+abbrev pub query_of : List ℕ → Option Cond
+query_of line = query_in (option_and_then (get (codes "query")) (json_of line))
+
+abbrev pub with_put : KeySchema → Items → Option (List (List ℕ × AttrValue)) → Items
+with_put schema m None = m
+with_put schema m (Some item) = put_item schema item m
+
+-- The map after a line that got this reply: a put that was answered with ok puts its item, and every other line leaves the map.
+abbrev pub after_line : KeySchema → Items → List ℕ → List ℕ → Items
+after_line schema m line reply = if bytes_eq reply put_text then with_put schema m (put_of line) else m
+
+-- the map after lines that got these replies
+abbrev pub After : KeySchema → Items → List (List ℕ) → List (List ℕ) → Items
+After schema m [] replies = m
+After schema m (line ∷ lines) [] = m
+After schema m (line ∷ lines) (reply ∷ replies) = After schema (after_line schema m line reply) lines replies
+
+-- the items of which a condition is true, in key order
+abbrev pub select_of : Cond → Items → Items
+select_of cond m = filter (holds cond) m
+
+-- A query's reply is a line for each item of the map of which its condition is true, in key order, and then the count line.
+abbrev pub IsAnswer : Items → List ℕ → List ℕ → Type 0
+IsAnswer m line reply = (cond : Cond) → query_of line ≡ Some cond → (scanned : ℕ) × (reply ≡ select_text (select_of cond m) scanned)
+
+-- A row of a plain table stands for the item that it is.
+abbrev pub AreRows : Items → Items → Type 0
+AreRows [] [] = Unit {0}
+AreRows [] (item ∷ items) = ⊥
+AreRows (row ∷ rows) [] = ⊥
+AreRows (row ∷ rows) (item ∷ items) = (row ≡ item) × AreRows rows items
+
+-- The rows stand for a map of acceptable items: one row for each key, in key order.
+pub record Stands (setting : Setting) (rows m : Items) : Type 0 where
+  pub is_map : IsTable setting.schema m
+  pub acceptable : All (λ item. is_acceptable setting item ≡ true) m
+  pub are_rows : AreRows rows m
