@@ -52,3 +52,37 @@ impl<F: Read> Source for FileSource<F> {
         }
     }
 }
+
+#[cfg(test)]
+mod tests {
+    use super::*;
+    use crate::LineReader;
+    use std::fs;
+    use std::test::Fail;
+
+    #[test]
+    fn reads_a_file(rt: HostRuntime) -> Result<(), Fail> {
+        fs::write(&rt, "dbe_io.lines", b"a\n\xff")?;
+        let mut source = FileSource::new(&rt, "dbe_io.lines", false);
+        let mut reader = LineReader::new(rt.alloc(), 8, 8)?;
+        let first = reader.next(&mut source)?.ok_or("no line")?;
+        let second = reader.next(&mut source)?.ok_or("no line")?;
+        assert_eq!(rt; first.as_slice(), b"a".as_slice());
+        assert_eq!(rt; second.as_slice(), b"\xff".as_slice());
+        assert!(rt; reader.next(&mut source)?.is_none());
+        fs::remove_file(&rt, "dbe_io.lines")?;
+        Ok(())
+    }
+
+    #[test]
+    fn a_missing_file_is_empty_where_asked(rt: HostRuntime) {
+        let mut empty = FileSource::new(&rt, "dbe_io.missing", true);
+        let mut failing = FileSource::new(&rt, "dbe_io.missing", false);
+        for _ in 0..2u8 {
+            assert_eq!(rt; empty.read(&mut [0; 4]), Ok(0));
+            assert_eq!(rt; failing.read(&mut [0; 4]), Err(Failed));
+        }
+        let mut folder_below_none = FileSource::new(&rt, "dbe_io.missing/file", true);
+        assert_eq!(rt; folder_below_none.read(&mut [0; 4]), Ok(0));
+    }
+}

@@ -64,3 +64,42 @@ pub fn write_all<O: Sink>(sink: &mut O, bytes: &[u8]) -> Result<(), WriteFault>
     }
     Ok(())
 }
+
+#[cfg(test)]
+mod tests {
+    use super::*;
+    use crate::MemSink;
+    use std::test::Fail;
+
+    #[test]
+    fn writes_all_or_a_front(rt: HostRuntime) -> Result<(), Fail> {
+        let cases: [(usize, usize, u64, Result<(), WriteFault>, &[u8]); 8] = [
+            (usize::MAX, 3, 0, Ok(()), b"abc"),
+            (1, 3, 0, Ok(()), b"abc"),
+            (2, 4, 0, Ok(()), b"abc"),
+            (1, 2, 0, Err(WriteFault::TookNothing), b"ab"),
+            (0, 3, 0, Err(WriteFault::TookNothing), b""),
+            (1, 3, 1, Err(WriteFault::Failed), b""),
+            (1, 3, 2, Err(WriteFault::Failed), b"a"),
+            (1, 3, 3, Err(WriteFault::Failed), b"ab"),
+        ];
+        for (most, room, fails, answer, written) in cases {
+            let fails = vec![in rt.alloc(); fails]?;
+            let mut sink = MemSink::in_pieces(rt.alloc(), most, room, fails)?;
+            assert_eq!(rt; write_all(&mut sink, b"abc"), answer);
+            assert_eq!(rt; sink.written(), written);
+        }
+        Ok(())
+    }
+
+    #[test]
+    fn finish_counts_as_a_call(rt: HostRuntime) -> Result<(), Fail> {
+        let mut sink = MemSink::new(rt.alloc(), 1, vec![in rt.alloc(); 2]?)?;
+        assert_eq!(rt; sink.write(b"a"), Ok(1));
+        assert_eq!(rt; sink.finish(), Err(Failed));
+        assert_eq!(rt; sink.finish(), Ok(()));
+        assert_eq!(rt; sink.write(b"b"), Ok(0));
+        assert_eq!(rt; sink.written(), b"a".as_slice());
+        Ok(())
+    }
+}

@@ -36,7 +36,7 @@ impl<P: Print> Sink for StdSink<P> {
     fn write(&mut self, piece: &[u8]) -> Result<usize, Failed> {
         self.finished = false;
         match self.out.write_some(piece) {
-            Ok(0) => {
+            Ok(0) if !piece.is_empty() => {
                 self.idle = self.idle.saturating_add(1);
                 Ok(0)
             }
@@ -51,6 +51,22 @@ impl<P: Print> Sink for StdSink<P> {
     // Each write reaches the system at once, so there is nothing to hand on.
     fn finish(&mut self) -> Result<(), Failed> {
         self.finished = true;
+        Ok(())
+    }
+}
+
+#[cfg(test)]
+mod tests {
+    use super::*;
+    use crate::write_all;
+    use std::test::Fail;
+
+    #[test]
+    fn prints(rt: HostRuntime) -> Result<(), Fail> {
+        let mut sink = StdSink::new(rt.stdout());
+        assert_eq!(rt; sink.write(b""), Ok(0));
+        write_all(&mut sink, b"printed\n")?;
+        assert_eq!(rt; sink.finish(), Ok(()));
         Ok(())
     }
 }

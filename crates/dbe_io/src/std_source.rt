@@ -34,3 +34,14 @@ impl<I: Read> Source for StdSource<I> {
         }
     }
 }
+
+#[cfg(test)]
+mod tests {
+    use super::*;
+
+    #[test]
+    fn reads_nothing_into_no_room(rt: HostRuntime) {
+        let mut source = StdSource::new(&rt);
+        assert_eq!(rt; source.read(&mut []), Ok(0));
+    }
+}
