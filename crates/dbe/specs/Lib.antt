@@ -5,3 +5,8 @@ pub mod Memory
 pub mod Requests
 pub mod Texts
 pub mod Maps
+pub mod Run
+pub mod Steps
+pub mod Stops
+pub mod Turns
+pub mod Rules

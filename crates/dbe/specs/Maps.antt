@@ -1,18 +1,17 @@
 -- Items under their keys as a map, what a script makes of it, and which rows stand for it.
-use Rattle.std.specs.Prelude.{◌≡◌, ℕ, Bool, true, List, [], ◌∷◌, ◌++◌, filter, bytes_eq, Option, Some, None, option_and_then, codes, if◌then◌else◌}
+use Rattle.std.specs.Prelude.{◌≡◌, ℕ, true, List, [], ◌∷◌, ◌++◌, filter, bytes_eq, if◌then◌else◌}
 use Rattle.std.specs.List.{All}
 use Rattle.std.specs.Ordering.{is_lt}
-use Rattle.serde_json.specs.Data.{Data}
-use Rattle.serde_json.specs.Find.{get}
 use Rattle.dbe_values.specs.declared.value.AttrValue.{AttrValue}
 use Rattle.dbe_values.specs.declared.key.KeySchema.{KeySchema}
-use Rattle.dbe_values.specs.Json.{json_of}
 use Rattle.dbe_values.specs.Keys.{key_order}
 use Rattle.dbe_cond.specs.declared.cond.Cond.{Cond}
 use Rattle.dbe_cond.specs.Meaning.{holds}
 use Rattle.dbe.specs.Setting.{Setting}
 use Rattle.dbe.specs.Rows.{IsTable}
-use Rattle.dbe.specs.Requests.{is_acceptable, put_in, query_in}
+use Rattle.dbe.specs.Requests.{is_acceptable, request_of}
+use Rattle.dbe.specs.declared.request.Request.{Request}
+use Rattle.dbe.specs.declared.request.Request.TheVariants as r
 use Rattle.dbe.specs.Texts.{put_text, select_text}
 
 -- a map from keys to items, as the list of its items
@@ -23,35 +22,30 @@ Items = List (List (List ℕ × AttrValue))
 abbrev pub put_item : KeySchema → List (List ℕ × AttrValue) → Items → Items
 put_item schema item m = filter (λ other. is_lt (key_order schema other item)) m ++ item ∷ filter (λ other. is_lt (key_order schema item other)) m
 
--- the item that a line puts, where it is a put
-abbrev pub put_of : List ℕ → Option (List (List ℕ × AttrValue))
-put_of line = put_in (option_and_then (get (codes "put")) (json_of line))
-
--- the condition that a line asks, where it is a query
-abbrev pub query_of : List ℕ → Option Cond
-query_of line = query_in (option_and_then (get (codes "query")) (json_of line))
-
-abbrev pub with_put : KeySchema → Items → Option (List (List ℕ × AttrValue)) → Items
-with_put schema m None = m
-with_put schema m (Some item) = put_item schema item m
+-- the map after a request: a put puts its item
+abbrev pub with_request : Setting → Items → Request → Items
+with_request c m r.NotJson = m
+with_request c m r.NotBuilt = m
+with_request c m (r.Put item) = put_item c.schema item m
+with_request c m (r.Query cond) = m
 
 -- The map after a line that got this reply: a put that was answered with ok puts its item, and every other line leaves the map.
-abbrev pub after_line : KeySchema → Items → List ℕ → List ℕ → Items
-after_line schema m line reply = if bytes_eq reply put_text then with_put schema m (put_of line) else m
+abbrev pub after_line : Setting → Items → List ℕ → List ℕ → Items
+after_line c m line reply = if bytes_eq reply put_text then with_request c m (request_of c line) else m
 
 -- the map after lines that got these replies
-abbrev pub After : KeySchema → Items → List (List ℕ) → List (List ℕ) → Items
-After schema m [] replies = m
-After schema m (line ∷ lines) [] = m
-After schema m (line ∷ lines) (reply ∷ replies) = After schema (after_line schema m line reply) lines replies
+abbrev pub After : Setting → Items → List (List ℕ) → List (List ℕ) → Items
+After c m [] replies = m
+After c m (line ∷ lines) [] = m
+After c m (line ∷ lines) (reply ∷ replies) = After c (after_line c m line reply) lines replies
 
 -- the items of which a condition is true, in key order
 abbrev pub select_of : Cond → Items → Items
 select_of cond m = filter (holds cond) m
 
 -- A query's reply is a line for each item of the map of which its condition is true, in key order, and then the count line.
-abbrev pub IsAnswer : Items → List ℕ → List ℕ → Type 0
-IsAnswer m line reply = (cond : Cond) → query_of line ≡ Some cond → (scanned : ℕ) × (reply ≡ select_text (select_of cond m) scanned)
+abbrev pub IsAnswer : Setting → Items → List ℕ → List ℕ → Type 0
+IsAnswer c m line reply = (cond : Cond) → request_of c line ≡ r.Query cond → (scanned : ℕ) × (reply ≡ select_text (select_of cond m) scanned)
 
 -- A row of a plain table stands for the item that it is.
 abbrev pub AreRows : Items → Items → Type 0

@@ -1,0 +1,128 @@
+-- Where the reader of a script gave up.
+use Rattle.std.proofs.Common.{◌≡◌, ◌⊎◌, ℕ, ◌+◌, ◌-◌, ◌<◌, ◌≤◌, ◌==◌, true, false, Bool, List, [], ◌∷◌, ◌++◌, length, Some, None, inl, inr, refl, sym, ap, ◌∙◌, subst, arith, append_assoc, append-nil, length-append, if◌then◌else◌}
+use Rattle.std.specs.declared.option.Option.{Option}
+use Rattle.std.specs.List.{All}
+use Rattle.dbe_io.specs.declared.lines.LineFault.{LineFault}
+use Rattle.dbe_io.specs.declared.lines.LineFault.TheVariants as f
+use Rattle.dbe_io.specs.Lines.{onto, lines_of, ended_lines, first_piece, HasNone, IsTooLong, IsTooMuch, IsWhole}
+use Rattle.dbe_io.specs.Reading.{Reading, GaveUp, StaysUp, Stops, IsCause, most_of}
+use Rattle.dbe_io.proofs.LineLaws.{ended_lines-open, IsTooLong-more, IsTooMuch-more}
+use Rattle.dbe.specs.declared.status.Status.TheVariants as s
+use Rattle.dbe.specs.Stops.{AreEndedIn, StopsFor, HasLongLine}
+use Rattle.dbe.proofs.ReadSoFar.{AreDone, ReadSoFar, Pulled, pulled_from}
+
+-- a reader that had answered no fault gives up for the first time
+pub gave_up : (old new : Reading) (left left' : Option (List ℕ)) (fault : LineFault) → old.fault ≡ None → Stops old new left left' fault → GaveUp old new left left' fault
+gave_up old new left left' fault none (inl stays) = let both : Some fault ≡ None = sym stays.fault_then ∙ none in (cc)
+gave_up old new left left' fault none (inr g) = g
+
+ended_or : (lines : List (List ℕ)) (front rest : List ℕ) → AreDone lines front rest → (rest ≡ [] → ⊥) → lines ≡ ended_lines front
+ended_or lines front rest (inl (d, w)) some = d
+ended_or lines front rest (inr (empty, d)) some = absurd (some empty)
+
+-- what the reader holds and what is left are what was to come
+pub record Halted (limit total : ℕ) (bytes : List ℕ) (old new : Reading) (left' : Option (List ℕ)) (lines : List (List ℕ)) (p_front p_rest : List ℕ) : Type 0 where
+  pub left : List ℕ
+  pub is_left : left' ≡ Some left
+  pub rest_is : p_rest ≡ new.held ++ left
+  pub most_is : most_of old ≡ total - length p_front
+
+pub halted : (limit total : ℕ) (bytes : List ℕ) (old new : Reading) (left left' : Option (List ℕ)) (lines : List (List ℕ)) (fault : LineFault)
+    → (p : ReadSoFar limit total bytes old left lines) → GaveUp old new left left' fault → Halted limit total bytes old new left' lines p.front (old.held ++ p.to_come)
+halted limit total bytes old new left left' lines fault p g =
+    let pull = pulled_from left left' p.to_come g.moved p.is_left g.moves.gone in record {
+      left = pull.rest;
+      is_left = pull.is_left;
+      rest_is = ap (λ l. old.held ++ l) pull.whole ∙ sym (append_assoc old.held g.moved pull.rest) ∙ ap (λ l. l ++ pull.rest) (sym g.held);
+      most_is = omega (arith, p.taken, p.is_total);
+    }
+
+long_some : (limit most : ℕ) (rest : List ℕ) → IsTooLong limit most rest → rest ≡ [] → ⊥
+long_some limit most rest long e = absurd (let none : length (first_piece rest) ≡ 0 = ap (λ l. length (first_piece l)) e in let past : limit < length (first_piece rest) = long.0 in omega arith)
+
+much_some : (limit most : ℕ) (rest : List ℕ) → IsTooMuch limit most rest → rest ≡ [] → ⊥
+much_some limit most rest much e = absurd (let none : length rest ≡ 0 = ap length e in let past : most < length rest = much.more in omega arith)
+
+-- the line that is to come is too long
+pub too_long : (limit total : ℕ) (bytes : List ℕ) (old new : Reading) (left left' : Option (List ℕ)) (lines : List (List ℕ))
+    → (p : ReadSoFar limit total bytes old left lines) → GaveUp old new left left' f.LineTooLong → IsTooLong limit (total - length p.front) (old.held ++ p.to_come)
+too_long limit total bytes old new left left' lines p g =
+    let h = halted limit total bytes old new left left' lines f.LineTooLong p g in
+    let long = IsTooLong-more old.limit (most_of old) new.held h.left g.cause in
+    let P : ℕ → Type 0 = λ n. IsTooLong n (total - length p.front) (old.held ++ p.to_come) in
+    let Q : ℕ → Type 0 = λ n. IsTooLong old.limit n (old.held ++ p.to_come) in
+    let R : List ℕ → Type 0 = λ l. IsTooLong old.limit (most_of old) l in
+    subst P p.is_limit (subst Q h.most_is (subst R (sym h.rest_is) long))
+
+-- too much is to come
+pub too_much : (limit total : ℕ) (bytes : List ℕ) (old new : Reading) (left left' : Option (List ℕ)) (lines : List (List ℕ))
+    → (p : ReadSoFar limit total bytes old left lines) → GaveUp old new left left' f.TooMuch → IsTooMuch limit (total - length p.front) (old.held ++ p.to_come)
+too_much limit total bytes old new left left' lines p g =
+    let h = halted limit total bytes old new left left' lines f.TooMuch p g in
+    let much = IsTooMuch-more old.limit (most_of old) new.held h.left g.cause in
+    let P : ℕ → Type 0 = λ n. IsTooMuch n (total - length p.front) (old.held ++ p.to_come) in
+    let Q : ℕ → Type 0 = λ n. IsTooMuch old.limit n (old.held ++ p.to_come) in
+    let R : List ℕ → Type 0 = λ l. IsTooMuch old.limit (most_of old) l in
+    subst P p.is_limit (subst Q h.most_is (subst R (sym h.rest_is) much))
+
+pub ended_before_long : (limit total : ℕ) (bytes : List ℕ) (old new : Reading) (left left' : Option (List ℕ)) (lines : List (List ℕ))
+    → (p : ReadSoFar limit total bytes old left lines) → GaveUp old new left left' f.LineTooLong → lines ≡ ended_lines p.front
+ended_before_long limit total bytes old new left left' lines p g =
+    ended_or lines p.front (old.held ++ p.to_come) p.done (long_some limit (total - length p.front) (old.held ++ p.to_come) (too_long limit total bytes old new left left' lines p g))
+
+pub ended_before_much : (limit total : ℕ) (bytes : List ℕ) (old new : Reading) (left left' : Option (List ℕ)) (lines : List (List ℕ))
+    → (p : ReadSoFar limit total bytes old left lines) → GaveUp old new left left' f.TooMuch → lines ≡ ended_lines p.front
+ended_before_much limit total bytes old new left left' lines p g =
+    ended_or lines p.front (old.held ++ p.to_come) p.done (much_some limit (total - length p.front) (old.held ++ p.to_come) (too_much limit total bytes old new left left' lines p g))
+
+left_empty : (xs ys : List ℕ) → xs ++ ys ≡ [] → (xs ≡ []) × (ys ≡ [])
+left_empty [] ys e = (refl, e)
+left_empty (x ∷ xs) ys e = (cc)
+
+read_ended : (lines : List (List ℕ)) (front rest held left : List ℕ) → AreDone lines front rest → rest ≡ held ++ left → HasNone 10 held → AreEndedIn lines (front ++ held) left
+read_ended lines front rest held left (inl (d, w)) is none = inl (d ∙ sym (ended_lines-open front held w none))
+read_ended lines front rest held left (inr (empty, d)) is none =
+    let both = left_empty held left (sym is ∙ empty) in
+    inr (d ∙ ap lines_of (sym (append-nil front) ∙ ap (λ l. front ++ l) (sym both.0)), both.1)
+
+-- the lines are those that end within the bytes taken
+pub read_stops : (limit total : ℕ) (bytes : List ℕ) (old new : Reading) (left left' : Option (List ℕ)) (lines : List (List ℕ))
+    → (p : ReadSoFar limit total bytes old left lines) → (g : GaveUp old new left left' f.Read)
+    → let h = halted limit total bytes old new left left' lines f.Read p g in
+      (taken : List ℕ) × (p.front ++ (old.held ++ p.to_come) ≡ taken ++ h.left) × AreEndedIn lines taken h.left
+read_stops limit total bytes old new left left' lines p g =
+    let h = halted limit total bytes old new left left' lines f.Read p g in (
+      p.front ++ new.held,
+      ap (λ l. p.front ++ l) h.rest_is ∙ sym (append_assoc p.front new.held h.left),
+      read_ended lines p.front (old.held ++ p.to_come) new.held h.left p.done h.rest_is g.cause.0,
+    )
+
+first_by : (b : ℕ) (piece : List ℕ) (rest : List (List ℕ)) (others : List (List ℕ)) (t : Bool) → rest ≡ piece ∷ others
+    → (more : List (List ℕ)) × ((if t then [] ∷ rest else onto b rest) ≡ (if t then [] else b ∷ piece) ∷ more)
+first_by b piece rest others true is = (rest, refl)
+first_by b piece rest others false is = (others, ap (onto b) is)
+
+last_by : (b : ℕ) (t : Bool) → (more : List (List ℕ)) × ((if t then [] ∷ [] else onto b []) ≡ (if t then [] else b ∷ []) ∷ more)
+last_by b true = ([], refl)
+last_by b false = ([], refl)
+
+first_line : (b : ℕ) (bytes : List ℕ) → (others : List (List ℕ)) × (lines_of (b ∷ bytes) ≡ first_piece (b ∷ bytes) ∷ others)
+first_line b [] = last_by b (b == 10)
+first_line b (c ∷ bytes) = let rest = first_line c bytes in first_by b (first_piece (c ∷ bytes)) (lines_of (c ∷ bytes)) rest.0 (b == 10) rest.1
+
+long_line_at : (limit : ℕ) (rest : List ℕ) → limit < length (first_piece rest) → (others : List (List ℕ)) × (lines_of rest ≡ first_piece rest ∷ others)
+long_line_at limit [] long = absurd (omega arith)
+long_line_at limit (b ∷ bytes) long = first_line b bytes
+
+-- a script of which a line is too long has a long line
+pub has_long_line : (bytes front rest : List ℕ) (lines : List (List ℕ)) (most : ℕ) → lines_of bytes ≡ lines ++ lines_of rest → IsTooLong 1048576 most rest → HasLongLine bytes
+has_long_line bytes front rest lines most are long =
+    let at = long_line_at 1048576 rest long.0 in
+    record { before = lines; line = first_piece rest; after = at.0; lines = are ∙ ap (λ ls. lines ++ ls) at.1; long = long.0 }
+
+-- a script of which too much is to come is too long
+pub is_long_script : (total : ℕ) (bytes front rest : List ℕ) (limit : ℕ) → bytes ≡ front ++ rest → length front ≤ total → IsTooMuch limit (total - length front) rest → total < length bytes
+is_long_script total bytes front rest limit whole within much =
+    let size : length bytes ≡ length front + length rest = ap length whole ∙ length-append front rest in
+    let past : total - length front < length rest = much.more in
+    omega arith

@@ -1,0 +1,167 @@
+-- How far a script was read: the lines that were given, and what is to come.
+use Rattle.std.proofs.Common.{◌≡◌, ◌⊎◌, ℕ, ◌+◌, ◌-◌, ◌<◌, ◌≤◌, true, false, List, [], ◌∷◌, ◌++◌, length, Vec, Some, None, inl, inr, refl, sym, ap, ◌∙◌, subst, arith, append_assoc, append-nil, length-append}
+use Rattle.std.specs.declared.alloc.Global.{Global}
+use Rattle.std.specs.declared.option.Option.{Option}
+use Rattle.std.specs.List.{All}
+use Rattle.std.specs.Io.KnownBytes.{Consumes, IsAtEnd, Keeps}
+use Rattle.std.proofs.lemmas.List.Elements.{All-nil, All-push}
+use Rattle.dbe_io.specs.declared.lines.LineFault.{LineFault}
+use Rattle.dbe_io.specs.declared.lines.LineFault.TheVariants as f
+use Rattle.dbe_io.specs.Lines.{lines_of, ended_lines, first_piece, HasNone, IsTooLong, IsTooMuch, IsWhole}
+use Rattle.dbe_io.specs.Reading.{Reading, Given, GaveUp, StaysUp, Stops, IsGiven, IsEndedLine, IsLastLine, IsCause, Moved, most_of}
+use Rattle.dbe_io.proofs.LineLaws.{lines_of-ended, lines_of-last, lines_of-front, lines_of-whole, ended_lines-more, ended_lines-open, IsWhole-ended, IsTooLong-more, IsTooMuch-more}
+use Rattle.dbe.specs.Stops.{AreEndedIn}
+
+-- The lines are those that newlines end in the front, or all of them at the end.
+abbrev pub AreDone : List (List ℕ) → List ℕ → List ℕ → Type 0
+AreDone lines front rest = ((lines ≡ ended_lines front) × IsWhole front) ⊎ ((rest ≡ []) × (lines ≡ lines_of front))
+
+pub record ReadSoFar (limit total : ℕ) (bytes : List ℕ) (reader : Reading) (left : Option (List ℕ)) (lines : List (List ℕ)) : Type 0 where
+  pub front : List ℕ
+  pub to_come : List ℕ
+  pub is_left : left ≡ Some to_come
+  pub whole : bytes ≡ front ++ (reader.held ++ to_come)
+  pub lines_are : lines_of bytes ≡ lines ++ lines_of (reader.held ++ to_come)
+  pub done : AreDone lines front (reader.held ++ to_come)
+  pub short : All (λ line. length line ≤ limit) lines
+  pub within : length front ≤ total
+  pub taken : reader.taken ≡ length front + length reader.held
+  pub is_limit : reader.limit ≡ limit
+  pub is_total : reader.total ≡ total
+
+-- before the first line
+pub ReadSoFar-start : (limit total : ℕ) (bytes : List ℕ) (reader : Reading) (left : Option (List ℕ)) → reader.held ≡ [] → reader.taken ≡ 0 → reader.limit ≡ limit → reader.total ≡ total → left ≡ Some bytes
+    → ReadSoFar limit total bytes reader left []
+ReadSoFar-start limit total bytes reader left held taken is_limit is_total told =
+    let all : bytes ≡ reader.held ++ bytes = ap (λ h. h ++ bytes) (sym held) in
+    let nothing : length reader.held ≡ 0 = ap length held in
+    record {
+      front = [];
+      to_come = bytes;
+      is_left = told;
+      whole = all;
+      lines_are = ap lines_of all;
+      done = inl (refl, tt);
+      short = All-nil (λ line. length line ≤ limit);
+      within = omega arith;
+      taken = omega (arith, taken, nothing);
+      is_limit = is_limit;
+      is_total = is_total;
+    }
+
+-- One line more was given: it is the first of those that were to come.
+pub record NextLine (limit total : ℕ) (bytes : List ℕ) (reader : Reading) (left : Option (List ℕ)) (lines : List (List ℕ)) (rest line : List ℕ) : Type 0 where
+  pub so_far : ReadSoFar limit total bytes reader left (lines ++ line ∷ [])
+  pub first : lines_of rest ≡ line ∷ lines_of (reader.held ++ so_far.to_come)
+
+pub record Pulled (bytes moved : List ℕ) (left' : Option (List ℕ)) : Type 0 where
+  pub rest : List ℕ
+  pub is_left : left' ≡ Some rest
+  pub whole : bytes ≡ moved ++ rest
+
+pulled : (bytes moved : List ℕ) (left' : Option (List ℕ)) → Consumes (Some bytes) left' moved → Pulled bytes moved left'
+pulled bytes moved None gone = absurd gone
+pulled bytes moved (Some rest) gone = record { rest = rest; is_left = refl; whole = gone }
+
+-- what was moved from told bytes
+pub pulled_from : (left left' : Option (List ℕ)) (bytes moved : List ℕ) → left ≡ Some bytes → Consumes left left' moved → Pulled bytes moved left'
+pulled_from left left' bytes moved is gone = let P : Option (List ℕ) → Type 0 = λ l. Consumes l left' moved in pulled bytes moved left' (subst P is gone)
+
+no_empty : (v r : List ℕ) → v ++ 10 ∷ r ≡ [] → ⊥
+no_empty [] r e = (cc)
+no_empty (x ∷ v) r e = (cc)
+
+ended_done : (lines : List (List ℕ)) (front v rest shape : List ℕ) → AreDone lines front rest → rest ≡ v ++ 10 ∷ shape → HasNone 10 v
+    → (lines ++ v ∷ [] ≡ ended_lines ((front ++ v) ++ 10 ∷ [])) × IsWhole ((front ++ v) ++ 10 ∷ [])
+ended_done lines front v rest shape (inl (d, w)) is none = (ap (λ ls. ls ++ v ∷ []) d ∙ sym (ended_lines-more front v w none), IsWhole-ended (front ++ v))
+ended_done lines front v rest shape (inr (empty, d)) is none = absurd (no_empty v shape (sym is ∙ empty))
+
+more_ended : (limit total : ℕ) (bytes : List ℕ) (old new : Reading) (left left' : Option (List ℕ)) (lines : List (List ℕ)) (v moved : List ℕ)
+    → (p : ReadSoFar limit total bytes old left lines) → Moved old new left left' moved → HasNone 10 v → IsEndedLine old.limit (most_of old) (old.held ++ moved) v new
+    → NextLine limit total bytes new left' lines (old.held ++ p.to_come) v
+more_ended limit total bytes old new left left' lines v moved p moves none e =
+    let pull = pulled_from left left' p.to_come moved p.is_left moves.gone in
+    let shape : old.held ++ p.to_come ≡ v ++ 10 ∷ (new.held ++ pull.rest) =
+    ap (λ l. old.held ++ l) pull.whole ∙ sym (append_assoc old.held moved pull.rest) ∙ ap (λ l. l ++ pull.rest) e.whole ∙ append_assoc v (10 ∷ new.held) pull.rest in
+    let first : lines_of (old.held ++ p.to_come) ≡ v ∷ lines_of (new.held ++ pull.rest) = ap lines_of shape ∙ lines_of-ended v (new.held ++ pull.rest) none in
+    let sizes : length old.held + length moved ≡ length v + (length new.held + 1) = sym (length-append old.held moved) ∙ ap length e.whole ∙ length-append v (10 ∷ new.held) ∙ omega arith in
+    let grown : length ((p.front ++ v) ++ 10 ∷ []) ≡ length p.front + length v + 1 = length-append (p.front ++ v) (10 ∷ []) ∙ ap (λ n. n + 1) (length-append p.front v) in
+    record {
+      so_far = record {
+        front = (p.front ++ v) ++ 10 ∷ [];
+        to_come = pull.rest;
+        is_left = pull.is_left;
+        whole = p.whole ∙ ap (λ l. p.front ++ l) shape ∙ sym (append_assoc p.front v (10 ∷ (new.held ++ pull.rest))) ∙ sym (append_assoc (p.front ++ v) (10 ∷ []) (new.held ++ pull.rest));
+        lines_are = p.lines_are ∙ ap (λ ls. lines ++ ls) first ∙ sym (append_assoc lines (v ∷ []) (lines_of (new.held ++ pull.rest)));
+        done = inl (ended_done lines p.front v (old.held ++ p.to_come) (new.held ++ pull.rest) p.done shape none);
+        short = All-push (λ line. length line ≤ limit) lines v p.short (omega (arith, e.short, p.is_limit));
+        within = omega (arith, grown, e.within, p.taken, p.is_total, p.within);
+        taken = omega (arith, grown, sizes, moves.taken, p.taken);
+        is_limit = moves.limit ∙ p.is_limit;
+        is_total = moves.total ∙ p.is_total;
+      };
+      first = first;
+    }
+
+empty_left : (left' : Option (List ℕ)) (rest : List ℕ) → left' ≡ Some rest → IsAtEnd left' → rest ≡ []
+empty_left left' rest is end = let P : Option (List ℕ) → Type 0 = IsAtEnd in subst P is end
+
+not_empty : (v : List ℕ) → 0 < length v → v ≡ [] → ⊥
+not_empty v some e = absurd (let none : length v ≡ 0 = ap length e in omega arith)
+
+last_done : (lines : List (List ℕ)) (front v rest : List ℕ) → AreDone lines front rest → rest ≡ v → HasNone 10 v → 0 < length v → lines ++ v ∷ [] ≡ lines_of (front ++ v)
+last_done lines front v rest (inl (d, w)) is none some = ap (λ ls. ls ++ v ∷ []) d ∙ ap (λ ls. ended_lines front ++ ls) (sym (lines_of-last v none some)) ∙ sym (lines_of-front front v w)
+last_done lines front v rest (inr (empty, d)) is none some = absurd (not_empty v some (sym is ∙ empty))
+
+more_last : (limit total : ℕ) (bytes : List ℕ) (old new : Reading) (left left' : Option (List ℕ)) (lines : List (List ℕ)) (v moved : List ℕ)
+    → (p : ReadSoFar limit total bytes old left lines) → Moved old new left left' moved → HasNone 10 v → IsLastLine old.limit (most_of old) (old.held ++ moved) v new → IsAtEnd left'
+    → NextLine limit total bytes new left' lines (old.held ++ p.to_come) v
+more_last limit total bytes old new left left' lines v moved p moves none e end =
+    let pull = pulled_from left left' p.to_come moved p.is_left moves.gone in
+    let nothing : pull.rest ≡ [] = empty_left left' pull.rest pull.is_left end in
+    let shape : old.held ++ p.to_come ≡ v =
+    ap (λ l. old.held ++ l) pull.whole ∙ sym (append_assoc old.held moved pull.rest) ∙ ap (λ l. l ++ pull.rest) e.whole ∙ ap (λ l. v ++ l) nothing ∙ append-nil v in
+    let over : new.held ++ pull.rest ≡ [] = ap (λ l. l ++ pull.rest) e.none_left ∙ nothing in
+    let first : lines_of (old.held ++ p.to_come) ≡ v ∷ lines_of (new.held ++ pull.rest) = ap lines_of shape ∙ lines_of-last v none e.some ∙ ap (λ l. v ∷ lines_of l) (sym over) in
+    let sizes : length old.held + length moved ≡ length v = sym (length-append old.held moved) ∙ ap length e.whole in
+    let grown : length (p.front ++ v) ≡ length p.front + length v = length-append p.front v in
+    let held : length new.held ≡ 0 = ap length e.none_left in
+    record {
+      so_far = record {
+        front = p.front ++ v;
+        to_come = pull.rest;
+        is_left = pull.is_left;
+        whole = p.whole ∙ ap (λ l. p.front ++ l) shape ∙ sym (append-nil (p.front ++ v)) ∙ ap (λ l. (p.front ++ v) ++ l) (sym over);
+        lines_are = p.lines_are ∙ ap (λ ls. lines ++ ls) first ∙ sym (append_assoc lines (v ∷ []) (lines_of (new.held ++ pull.rest)));
+        done = inr (over, last_done lines p.front v (old.held ++ p.to_come) p.done shape none e.some);
+        short = All-push (λ line. length line ≤ limit) lines v p.short (omega (arith, e.short, p.is_limit));
+        within = omega (arith, grown, e.within, p.taken, p.is_total, p.within);
+        taken = omega (arith, grown, sizes, held, moves.taken, p.taken);
+        is_limit = moves.limit ∙ p.is_limit;
+        is_total = moves.total ∙ p.is_total;
+      };
+      first = first;
+    }
+
+more_by : (limit total : ℕ) (bytes : List ℕ) (old new : Reading) (left left' : Option (List ℕ)) (lines : List (List ℕ)) (v : List ℕ) (moved : List ℕ)
+    → (p : ReadSoFar limit total bytes old left lines) → Moved old new left left' moved → (new.ended ≡ true → IsAtEnd left') → HasNone 10 v
+    → IsEndedLine old.limit (most_of old) (old.held ++ moved) v new ⊎ IsLastLine old.limit (most_of old) (old.held ++ moved) v new
+    → NextLine limit total bytes new left' lines (old.held ++ p.to_come) v
+more_by limit total bytes old new left left' lines v moved p moves end none (inl e) = more_ended limit total bytes old new left left' lines v moved p moves none e
+more_by limit total bytes old new left left' lines v moved p moves end none (inr e) = more_last limit total bytes old new left left' lines v moved p moves none e (end e.ended)
+
+pub ReadSoFar-more : (limit total : ℕ) (bytes : List ℕ) (old new : Reading) (left left' : Option (List ℕ)) (lines : List (List ℕ)) (v : Vec ℕ Global)
+    → (p : ReadSoFar limit total bytes old left lines) → Given old new left left' (Some v) → (old.ended ≡ true → IsAtEnd left)
+    → NextLine limit total bytes new left' lines (old.held ++ p.to_come) v.items
+ReadSoFar-more limit total bytes old new left left' lines v p g was =
+    more_by limit total bytes old new left left' lines v.items g.moved p g.moves (λ e. g.at_end e was) g.given.0 g.given.1
+
+-- where none is given, nothing is to come
+pub ReadSoFar-none : (limit total : ℕ) (bytes : List ℕ) (old new : Reading) (left left' : Option (List ℕ)) (lines : List (List ℕ))
+    → (p : ReadSoFar limit total bytes old left lines) → Given old new left left' None → (old.ended ≡ true → IsAtEnd left) → lines ≡ lines_of bytes
+ReadSoFar-none limit total bytes old new left left' lines p g was =
+    let pull = pulled_from left left' p.to_come g.moved p.is_left g.moves.gone in
+    let nothing : pull.rest ≡ [] = empty_left left' pull.rest pull.is_left (g.at_end g.given.2 was) in
+    let shape : old.held ++ p.to_come ≡ [] =
+    ap (λ l. old.held ++ l) pull.whole ∙ sym (append_assoc old.held g.moved pull.rest) ∙ ap (λ l. l ++ pull.rest) g.given.0 ∙ nothing in
+    sym (p.lines_are ∙ ap (λ l. lines ++ lines_of l) shape ∙ append-nil lines)

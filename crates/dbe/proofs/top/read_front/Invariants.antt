@@ -1,0 +1,12 @@
+use Rattle.std.proofs.Common.{◌+◌, ◌-◌, ◌≤◌, length, vec_len}
+use Rattle.std.specs.Io.KnownBytes.{Consumes}
+use Rattle.dbe.proofs.top.read_front.Given as goal
+
+abbrev pub invariant-reads : goal.invariant-reads
+invariant-reads g l = record {
+  front : Consumes (g.C.Source.left l.fn.source) (g.C.Source.left l.source) l.bytes.items;
+  later : g.C.Source.faults l.fn.source ≤ g.C.Source.faults l.source;
+}
+
+abbrev pub decreases-reads : goal.decreases-reads
+decreases-reads g l = 1048577 - vec_len l.bytes

@@ -1,0 +1,53 @@
+-- What is within the rules of a run, and when the configuration is refused.
+use Rattle.std.specs.Prelude.{◌≡◌, ◌≢◌, ◌⊎◌, ◌<◌, ◌≤◌, ℕ, List, ◌++◌, length, Some, Err, IsOk}
+use Rattle.std.specs.declared.option.Option.{Option}
+use Rattle.dbe.specs.Setting.{configured}
+use Rattle.dbe.specs.Stops.{HasLongLine}
+use Rattle.dbe.specs.declared.config.ConfigFault.{ConfigFault}
+use Rattle.dbe.specs.declared.config.ConfigFault.TheVariants as f
+use Rattle.dbe.specs.declared.status.Status.{Status}
+use Rattle.dbe.specs.declared.status.Status.TheVariants as s
+
+-- told bytes spell no configuration for this reason, which is not want of memory
+pub record IsRefused (fault : ConfigFault) (told : Option (List ℕ)) : Type 0 where
+  pub not_memory : fault ≢ f.Memory
+  pub refused : (bytes : List ℕ) → told ≡ Some bytes → configured bytes ≡ Err fault
+
+-- the statuses of reading a configuration
+abbrev pub IsOfConfig : Status → Option (List ℕ) → Type 0
+IsOfConfig (s.Config fault) told = IsRefused fault told
+IsOfConfig s.Read told = Unit {0}
+IsOfConfig s.Memory told = Unit {0}
+IsOfConfig s.Done told = ⊥
+IsOfConfig s.Words told = ⊥
+IsOfConfig s.LineTooLong told = ⊥
+IsOfConfig s.ScriptTooLong told = ⊥
+IsOfConfig s.Write told = ⊥
+IsOfConfig s.Table told = ⊥
+
+-- the statuses of reading bytes
+abbrev pub IsOfReading : Status → Type 0
+IsOfReading s.Read = Unit {0}
+IsOfReading s.Memory = Unit {0}
+IsOfReading s.Done = ⊥
+IsOfReading s.Words = ⊥
+IsOfReading (s.Config fault) = ⊥
+IsOfReading s.LineTooLong = ⊥
+IsOfReading s.ScriptTooLong = ⊥
+IsOfReading s.Write = ⊥
+IsOfReading s.Table = ⊥
+
+-- told bytes, or a front of them that is longer than a configuration may be
+abbrev pub IsFrontOf : Option (List ℕ) → List ℕ → Type 0
+IsFrontOf told front = (bytes : List ℕ) → told ≡ Some bytes → (bytes ≡ front) ⊎ ((1048576 < length front) × ((rest : List ℕ) × (bytes ≡ front ++ rest)))
+
+-- no words, told bytes that spell a configuration, and a told script within the limits on its lines and its length
+pub record IsWithinRules (words : ℕ) (config script : Option (List ℕ)) : Type 0 where
+  pub no_words : words ≡ 0
+  pub bytes : List ℕ
+  pub told : config ≡ Some bytes
+  pub accepted : IsOk (configured bytes)
+  pub script_bytes : List ℕ
+  pub script_told : script ≡ Some script_bytes
+  pub no_long_line : ¬ HasLongLine script_bytes
+  pub short : length script_bytes ≤ 1073741824
