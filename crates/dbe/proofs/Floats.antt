@@ -4,9 +4,9 @@ use Rattle.std.specs.Cmp.Lexicographic.{slice_cmp}
 use Rattle.std.specs.Ordering.{match_ordering}
 use Rattle.serde_json.specs.Data.{Data, object, Members, no_members, member, put}
 use Rattle.serde_json.specs.Written.{has_float, members_have_float}
-use Rattle.dbe_values.specs.declared.value.AttrValue.{AttrValue}
-use Rattle.dbe_values.specs.declared.value.AttrValue.TheVariants.{S}
-use Rattle.dbe_values.specs.Writing.{value_data, with_members, item_data}
+use Rattle.dbe_texts.specs.declared.value.AttrValue.{AttrValue}
+use Rattle.dbe_texts.specs.declared.value.AttrValue.TheVariants.{S}
+use Rattle.dbe_texts.specs.Writing.{value_data, with_members, item_data}
 
 no_float_value : (v : AttrValue) → has_float (value_data v) ≡ false
 no_float_value (S text) = refl

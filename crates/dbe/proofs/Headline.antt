@@ -9,9 +9,9 @@ use Rattle.std.specs.Ordering.{match_ordering, ordering_reverse, is_lt}
 use Rattle.std.proofs.lemmas.Cmp.{nat_list_cmp_total}
 use Rattle.std.proofs.lemmas.List.Elements.{All-nil, All-cons}
 use Rattle.std.proofs.lemmas.Slice.Eq.{bytes_eq-Decides}
-use Rattle.dbe_values.specs.declared.key.KeySchema.{KeySchema}
+use Rattle.dbe_texts.specs.declared.key.KeySchema.{KeySchema}
 use Rattle.serde_json.specs.Data.{Data}
-use Rattle.dbe_values.specs.Json.{json_of, size_of}
+use Rattle.dbe_texts.specs.Json.{json_of, size_of}
 use Rattle.serde_json.specs.Find.{get}
 use Rattle.serde_json.specs.Read.{read}
 use Rattle.std.specs.Str.{is_utf8}
@@ -19,7 +19,7 @@ use Rattle.std.proofs.lemmas.List.Concat.{flat_map-cons}
 use Rattle.serde_json.proofs.OnLiterals.{serde_json_on_literals}
 use Rattle.dbe_io.specs.Lines.{lines_of}
 use Rattle.dbe.specs.declared.status.Status.{Status}
-use Rattle.dbe_values.specs.Keys.{has_key, key_of, key_order}
+use Rattle.dbe_texts.specs.Keys.{has_key, key_of, key_order}
 use Rattle.dbe_cond.specs.declared.cond.Cond.{Cond}
 use Rattle.dbe_cond.specs.declared.wanted.Wanted.TheVariants.{Only}
 use Rattle.dbe_cond.specs.Meaning.{holds}

@@ -5,7 +5,7 @@ use Rattle.std.specs.declared.option.Option.{Option}
 use Rattle.std.specs.Io.KnownBytes.{Appends, IsAtEnd}
 use Rattle.std.proofs.KnownBytes.{Appends-nil, Appends-trans}
 use Rattle.std.proofs.lemmas.List.{take-append-drop}
-use Rattle.dbe_values.specs.declared.value.AttrValue.{AttrValue}
+use Rattle.dbe_texts.specs.declared.value.AttrValue.{AttrValue}
 use Rattle.dbe_io.specs.declared.lines.LineFault.TheVariants as f
 use Rattle.dbe_io.specs.Lines.{lines_of}
 use Rattle.dbe_io.specs.Prefix.{AppendsPrefix}

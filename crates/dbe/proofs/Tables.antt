@@ -12,8 +12,8 @@ use Rattle.std.proofs.lemmas.List.Elements.{All-from_get_or}
 use Rattle.std.proofs.lemmas.Map.Keys.{sorted_from_all_adjacent}
 use Rattle.std.proofs.lemmas.Map.Text.{is_eq-slice_cmp}
 use Rattle.std.proofs.lemmas.Slice.Eq.{bytes_eq-Decides}
-use Rattle.dbe_values.specs.declared.key.KeySchema.{KeySchema}
-use Rattle.dbe_values.specs.Keys.{has_key, row_key, key_of, key_order}
+use Rattle.dbe_texts.specs.declared.key.KeySchema.{KeySchema}
+use Rattle.dbe_texts.specs.Keys.{has_key, row_key, key_of, key_order}
 use Rattle.dbe_cond.specs.declared.wanted.Wanted.TheVariants.{Every}
 use Rattle.dbe.specs.Rows.{Row, IsTable, put_row, wanted_rows}
 use Rattle.dbe.specs.Memory.{AreKeyed}

@@ -5,7 +5,7 @@ use Rattle.std.proofs.lemmas.Bool.Decides.{nat_tests}
 use Rattle.std.proofs.lemmas.Option.{slice_get_within, get_or_from_slice_get}
 use Rattle.std.proofs.lemmas.List.Sums.{sum_by-cons}
 use Rattle.std.proofs.lemmas.List.{drop_more, drop_all}
-use Rattle.dbe_values.specs.declared.value.AttrValue.{AttrValue}
+use Rattle.dbe_texts.specs.declared.value.AttrValue.{AttrValue}
 
 abbrev pub Attribute : Type 0
 Attribute = List ℕ × AttrValue

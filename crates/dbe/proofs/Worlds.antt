@@ -6,7 +6,7 @@ use Rattle.dbe.specs.Setting.{Setting}
 use Rattle.dbe.specs.Run.{State, run, World, RanWith}
 use Rattle.dbe.specs.Stops.{AreRowsBefore, StoppedWith}
 use Rattle.dbe_io.specs.Lines.{lines_of}
-use Rattle.dbe_values.specs.declared.value.AttrValue.{AttrValue}
+use Rattle.dbe_texts.specs.declared.value.AttrValue.{AttrValue}
 use Rattle.dbe.specs.declared.status.Status.{Status}
 
 appends_same : (old old' new new' : Option (List ℕ)) (text : List ℕ) → old ≡ old' → new ≡ new' → Appends old new text → Appends old' new' text

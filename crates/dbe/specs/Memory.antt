@@ -1,9 +1,9 @@
 -- What a table in memory holds.
 use Rattle.std.specs.Prelude.{◌≡◌, ℕ, List, [], ◌∷◌, Option, None, Some, String, string_bytes}
 use Rattle.std.specs.declared.alloc.Global.{Global}
-use Rattle.dbe_values.specs.declared.value.AttrValue.{AttrValue}
-use Rattle.dbe_values.specs.declared.key.KeySchema.{KeySchema}
-use Rattle.dbe_values.specs.Keys.{key_of}
+use Rattle.dbe_texts.specs.declared.value.AttrValue.{AttrValue}
+use Rattle.dbe_texts.specs.declared.key.KeySchema.{KeySchema}
+use Rattle.dbe_texts.specs.Keys.{key_of}
 
 -- a table in memory, as contracts see it
 pub record Held : Type 0 where

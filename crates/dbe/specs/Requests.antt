@@ -3,11 +3,11 @@ use Rattle.std.specs.Prelude.{ℕ, ◌+◌, ◌==◌, ◌&&◌, ◌||◌, Bool, 
 use Rattle.std.specs.List.{list_all}
 use Rattle.serde_json.specs.Data.{Data, Members, no_members, member}
 use Rattle.serde_json.specs.Find.{get, as_str, as_object}
-use Rattle.dbe_values.specs.declared.value.AttrValue.{AttrValue}
-use Rattle.dbe_values.specs.declared.value.AttrValue.TheVariants.{S}
-use Rattle.dbe_values.specs.Json.{json_of, size_of}
-use Rattle.dbe_values.specs.Keys.{has_key}
-use Rattle.dbe_values.specs.Reading.{item_in, text_in}
+use Rattle.dbe_texts.specs.declared.value.AttrValue.{AttrValue}
+use Rattle.dbe_texts.specs.declared.value.AttrValue.TheVariants.{S}
+use Rattle.dbe_texts.specs.Json.{json_of, size_of}
+use Rattle.dbe_texts.specs.Keys.{has_key}
+use Rattle.dbe_texts.specs.Reading.{item_in, text_in}
 use Rattle.dbe_cond.specs.declared.cond.Cond.{Cond}
 use Rattle.dbe_cond.specs.declared.cond.Cond.TheVariants.{Compare}
 use Rattle.dbe_cond.specs.declared.cond.Op.TheVariants.{Eq}

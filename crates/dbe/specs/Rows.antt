@@ -4,9 +4,9 @@ use Rattle.std.specs.List.{All}
 use Rattle.std.specs.List.Sorted.{IsStrictlySortedBy}
 use Rattle.std.specs.Ordering.{match_ordering, nat_cmp}
 use Rattle.std.specs.Cmp.Lexicographic.{slice_cmp}
-use Rattle.dbe_values.specs.declared.value.AttrValue.{AttrValue}
-use Rattle.dbe_values.specs.declared.key.KeySchema.{KeySchema}
-use Rattle.dbe_values.specs.Keys.{has_key, key_of, key_order}
+use Rattle.dbe_texts.specs.declared.value.AttrValue.{AttrValue}
+use Rattle.dbe_texts.specs.declared.key.KeySchema.{KeySchema}
+use Rattle.dbe_texts.specs.Keys.{has_key, key_of, key_order}
 use Rattle.dbe_cond.specs.declared.wanted.Wanted.{Wanted}
 use Rattle.dbe_cond.specs.Wants.{wants}
 

@@ -3,8 +3,8 @@ use Rattle.std.specs.Prelude.{◌≡◌, ℕ, List, [], ◌∷◌, ◌++◌, Som
 use Rattle.std.specs.declared.option.Option.{Option}
 use Rattle.std.specs.List.{flat_map}
 use Rattle.std.specs.Io.KnownBytes.{Appends}
-use Rattle.dbe_values.specs.declared.value.AttrValue.{AttrValue}
-use Rattle.dbe_values.specs.declared.key.KeySchema.{KeySchema}
+use Rattle.dbe_texts.specs.declared.value.AttrValue.{AttrValue}
+use Rattle.dbe_texts.specs.declared.key.KeySchema.{KeySchema}
 use Rattle.dbe_io.specs.Lines.{lines_of}
 use Rattle.dbe_cond.specs.declared.cond.Cond.{Cond}
 use Rattle.dbe_cond.specs.declared.wanted.Wanted.TheVariants.{Only}

@@ -6,9 +6,9 @@ use Rattle.std.specs.Cmp.Lexicographic.{slice_cmp}
 use Rattle.std.specs.BTreeMap.{insert_entry}
 use Rattle.serde_json.specs.Data.{Data, Items, no_items, item, Members, no_members, member}
 use Rattle.serde_json.specs.Find.{get, as_str, as_object, as_array}
-use Rattle.dbe_values.specs.declared.key.KeyKind.TheVariants as kind
-use Rattle.dbe_values.specs.declared.key.KeySchema.{KeySchema}
-use Rattle.dbe_values.specs.Json.{json_of, size_of}
+use Rattle.dbe_texts.specs.declared.key.KeyKind.TheVariants as kind
+use Rattle.dbe_texts.specs.declared.key.KeySchema.{KeySchema}
+use Rattle.dbe_texts.specs.Json.{json_of, size_of}
 use Rattle.dbe.specs.declared.config.Action.{Action}
 use Rattle.dbe.specs.declared.config.Action.TheVariants as action
 use Rattle.dbe.specs.declared.config.ConfigFault.{ConfigFault}

@@ -1,12 +1,12 @@
 -- What one line does to the rows.
 use Rattle.std.specs.Prelude.{◌≡◌, ◌⊎◌, ℕ, true, List, Some}
 use Rattle.std.specs.declared.option.Option.{Option}
-use Rattle.dbe_values.specs.declared.value.AttrValue.{AttrValue}
+use Rattle.dbe_texts.specs.declared.value.AttrValue.{AttrValue}
 use Rattle.dbe.specs.Setting.{Setting}
 use Rattle.dbe.specs.Run.{State, reply_in, reply_by}
 use Rattle.dbe.specs.declared.request.Request.{Request}
 use Rattle.dbe.specs.declared.request.Request.TheVariants as r
-use Rattle.dbe_values.specs.Keys.{has_key}
+use Rattle.dbe_texts.specs.Keys.{has_key}
 
 -- a request got its reply, and the rows are those after it
 pub record AnsweredBy (c : Setting) (s : State) (request : Request) (text : List ℕ) (rows : Option (List (List (List ℕ × AttrValue)))) : Type 0 where

@@ -3,7 +3,7 @@ use Rattle.std.specs.Prelude.{◌≡◌, ◌≢◌, ◌⊎◌, ◌<◌, ◌≤�
 use Rattle.std.specs.declared.option.Option.{Option}
 use Rattle.std.specs.List.{All, flat_map}
 use Rattle.std.specs.Io.KnownBytes.{Appends}
-use Rattle.dbe_values.specs.declared.value.AttrValue.{AttrValue}
+use Rattle.dbe_texts.specs.declared.value.AttrValue.{AttrValue}
 use Rattle.dbe_io.specs.Lines.{lines_of, ended_lines, IsTooLong, IsTooMuch}
 use Rattle.dbe.specs.Setting.{Setting}
 use Rattle.dbe.specs.Maps.{Items, After, Stands, after_line}

@@ -5,7 +5,7 @@ ghost use Rattle.dbe.specs.Setting.{configured, setting_in, schema_in, listed_in
 ghost use Rattle.dbe.specs.Entries.{entries_of};
 
 use dbe_num::{Memory, Text};
-use dbe_values::{KeyKind, KeyName, KeySchema, json_value, size_of};
+use dbe_texts::{KeyKind, KeyName, KeySchema, json_value, size_of};
 use serde_json::{Map, Value};
 use std::alloc::Global;
 use std::collections::BTreeMap;

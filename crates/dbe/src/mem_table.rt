@@ -1,6 +1,6 @@
 ghost use Rattle.std.specs.Prelude.{◌≡◌, ◌↔◌, ◌≤◌, [], IfOk, OnOk, OnErr, Some, None, true, false, IsTrue, is_some, String, string_bytes};
 ghost use Rattle.std.specs.BTreeMap.{values};
-ghost use Rattle.dbe_values.specs.Keys.{has_key, key_of, row_key, key_order};
+ghost use Rattle.dbe_texts.specs.Keys.{has_key, key_of, row_key, key_order};
 ghost use Rattle.dbe.specs.Rows.{IsTable, put_row, wanted_rows};
 ghost use Rattle.dbe_io.specs.Causes.{Rose};
 ghost use Rattle.dbe_io.specs.Memory.{fails_at, one_more};
@@ -9,7 +9,7 @@ ghost use Rattle.dbe.specs.Memory.{AreKeyed};
 use crate::{Table, TableFault};
 use dbe_cond::{Wanted, wants};
 use dbe_num::Memory;
-use dbe_values::{Item, KeySchema, read_key};
+use dbe_texts::{Item, KeySchema, read_key};
 use std::alloc::Global;
 use std::cmp::Ordering;
 use std::collections::BTreeMap;

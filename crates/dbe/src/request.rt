@@ -1,14 +1,14 @@
 ghost use Rattle.std.specs.Prelude.{◌≡◌, ◌+◌, ◌≤◌, ℕ, IfOk, IfSome, codes, min, option_map, sum_by, nat_le, ◌^◌, ◌-◌};
 ghost use Rattle.std.specs.List.{list_all};
 ghost use Rattle.serde_json.specs.View.{view, members_view};
-ghost use Rattle.dbe_values.specs.Reading.{text_in};
+ghost use Rattle.dbe_texts.specs.Reading.{text_in};
 ghost use Rattle.dbe_cond.specs.Test.{test_of};
 ghost use Rattle.dbe.specs.Requests.{request_of, request_in, put_in, query_in, cond_in, test_with, compare_with, are_values_of, are_values, is_acceptable, has_action, attribute_size};
 
 use crate::Config;
 use dbe_cond::{Cond, Op, Operand, is_placeholder, test_of};
 use dbe_num::{Memory, Text};
-use dbe_values::{AttrValue, Item, item_from_json, json_value, read_key, size_of, text_of_json};
+use dbe_texts::{AttrValue, Item, item_from_json, json_value, read_key, size_of, text_of_json};
 use serde_json::{Map, Value};
 use std::alloc::Global;
 

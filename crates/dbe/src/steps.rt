@@ -1,6 +1,6 @@
 ghost use Rattle.std.specs.Prelude.{◌≡◌, ◌≤◌, Some, Err, true, IfOk, OnOk, OnErr};
 ghost use Rattle.dbe_io.specs.Causes.{Rose};
-ghost use Rattle.dbe_values.specs.Keys.{has_key};
+ghost use Rattle.dbe_texts.specs.Keys.{has_key};
 ghost use Rattle.dbe_cond.specs.declared.wanted.Wanted.TheVariants.{Only};
 ghost use Rattle.dbe.specs.Run.{State, query_text};
 ghost use Rattle.dbe.specs.Rows.{put_row, wanted_rows};
@@ -12,7 +12,7 @@ use crate::texts::{put_text, query_text, refused_text};
 use crate::{Config, Table, TableFault};
 use dbe_cond::{Cond, Wanted};
 use dbe_num::Memory;
-use dbe_values::Item;
+use dbe_texts::Item;
 use std::alloc::Global;
 
 /// Why a line got no reply.

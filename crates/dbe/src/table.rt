@@ -1,13 +1,13 @@
 ghost use Rattle.std.specs.Prelude.{◌≡◌, ◌≤◌, ℕ, List, Some, None, true, IfSome, IfOk, OnOk, OnErr, IsSome};
 ghost use Rattle.std.specs.declared.option.Option.{Option};
 ghost use Rattle.dbe_io.specs.Causes.{HasCause, Rose};
-ghost use Rattle.dbe_values.specs.declared.key.KeySchema.{KeySchema};
-ghost use Rattle.dbe_values.specs.declared.value.AttrValue.{AttrValue};
-ghost use Rattle.dbe_values.specs.Keys.{has_key};
+ghost use Rattle.dbe_texts.specs.declared.key.KeySchema.{KeySchema};
+ghost use Rattle.dbe_texts.specs.declared.value.AttrValue.{AttrValue};
+ghost use Rattle.dbe_texts.specs.Keys.{has_key};
 ghost use Rattle.dbe.specs.Rows.{IsTable, put_row, wanted_rows};
 
 use dbe_cond::Wanted;
-use dbe_values::{Item, KeySchema};
+use dbe_texts::{Item, KeySchema};
 
 /// Why a table did not do what it was asked.
 #[derive(Clone, Copy, Debug, PartialEq, Eq)]

@@ -2,13 +2,13 @@ ghost use Rattle.std.specs.Prelude.{◌≡◌, ◌++◌, false, codes, filter, l
 ghost use Rattle.serde_json.specs.Data.{object, member, no_members, number, unsigned, string};
 ghost use Rattle.serde_json.specs.View.{view};
 ghost use Rattle.serde_json.specs.Written.{has_float};
-ghost use Rattle.dbe_values.specs.Writing.{item_data};
+ghost use Rattle.dbe_texts.specs.Writing.{item_data};
 ghost use Rattle.dbe.specs.Run.{query_text};
 ghost use Rattle.dbe.specs.Texts.{line_of, put_text, refused_text, item_text, count_text};
 
 use dbe_cond::{Cond, holds};
 use dbe_num::Memory;
-use dbe_values::{Item, item_to_json};
+use dbe_texts::{Item, item_to_json};
 use serde_json::{Map, Value, json};
 use std::alloc::Global;
 

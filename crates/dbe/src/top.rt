@@ -1,6 +1,6 @@
 ghost use Rattle.std.specs.Prelude.{◌≡◌, ◌≢◌, ◌↔◌, ◌⊎◌, ◌<◌, ◌≤◌, ℕ, List, true, Some, None, Ok, Err, IfOk, IfErr, OnOk, IsSome, length};
 ghost use Rattle.std.specs.Io.KnownBytes.{IsAtEnd, Consumes};
-ghost use Rattle.dbe_values.specs.declared.value.AttrValue.{AttrValue};
+ghost use Rattle.dbe_texts.specs.declared.value.AttrValue.{AttrValue};
 ghost use Rattle.std.specs.List.{All};
 ghost use Rattle.dbe_io.specs.Causes.{Rose};
 ghost use Rattle.dbe_io.specs.Lines.{lines_of};

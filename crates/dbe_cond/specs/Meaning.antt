@@ -1,7 +1,7 @@
 -- What a condition means over an item (DynamoDB developer guide, "Condition and filter expressions"); that a comparison with an absent name is false is this project's own.
 use Rattle.std.specs.Prelude.{ℕ, Bool, false, List, Option, Some, None}
-use Rattle.dbe_values.specs.declared.value.AttrValue.{AttrValue}
-use Rattle.dbe_values.specs.Attributes.{value_at, equal}
+use Rattle.dbe_texts.specs.declared.value.AttrValue.{AttrValue}
+use Rattle.dbe_texts.specs.Attributes.{value_at, equal}
 use Rattle.dbe_cond.specs.declared.cond.Cond.{Cond}
 use Rattle.dbe_cond.specs.declared.cond.Cond.TheVariants.{Compare}
 use Rattle.dbe_cond.specs.declared.cond.Op.TheVariants.{Eq}

@@ -1,6 +1,6 @@
 -- Which rows are wanted.
 use Rattle.std.specs.Prelude.{ℕ, Bool, true, List}
-use Rattle.dbe_values.specs.declared.value.AttrValue.{AttrValue}
+use Rattle.dbe_texts.specs.declared.value.AttrValue.{AttrValue}
 use Rattle.dbe_cond.specs.declared.wanted.Wanted.{Wanted}
 use Rattle.dbe_cond.specs.declared.wanted.Wanted.TheVariants.{Every, Only}
 use Rattle.dbe_cond.specs.Meaning.{holds}

@@ -1,7 +1,7 @@
 ghost use Rattle.std.specs.Prelude.{◌≡◌, IfOk};
 
 use dbe_num::{Memory, Text};
-use dbe_values::AttrValue;
+use dbe_texts::AttrValue;
 use std::alloc::Global;
 
 /// How two operands are compared.

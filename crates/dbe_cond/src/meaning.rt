@@ -2,7 +2,7 @@ ghost use Rattle.std.specs.Prelude.{◌≡◌, option_map};
 ghost use Rattle.dbe_cond.specs.Meaning.{value_of, holds};
 
 use crate::{Cond, Op, Operand};
-use dbe_values::{AttrValue, Item, equal};
+use dbe_texts::{AttrValue, Item, equal};
 
 /// Whether a condition is true of an item. It takes no memory.
 pub fn holds(cond: &Cond, item: &Item) -> bool

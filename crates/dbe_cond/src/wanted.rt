@@ -2,7 +2,7 @@ ghost use Rattle.std.specs.Prelude.{◌≡◌};
 ghost use Rattle.dbe_cond.specs.Wants.{wants};
 
 use crate::{Cond, holds};
-use dbe_values::Item;
+use dbe_texts::Item;
 
 /// Which rows a table hands out.
 #[derive(Debug, Drop)]

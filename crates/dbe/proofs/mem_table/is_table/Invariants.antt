@@ -1,6 +1,6 @@
 use Rattle.std.proofs.Common.{◌≡◌, ℕ, ◌<◌, ◌+◌, true, get_or}
 use Rattle.std.specs.declared.cmp.Ordering.TheVariants.{Less}
-use Rattle.dbe_values.specs.Keys.{has_key, key_order}
+use Rattle.dbe_texts.specs.Keys.{has_key, key_order}
 use Rattle.dbe.specs.Rows.{Row}
 use Rattle.dbe.proofs.mem_table.is_table.Given as goal
 

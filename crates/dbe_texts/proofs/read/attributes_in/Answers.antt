@@ -1,8 +1,8 @@
 use Rattle.std.proofs.Common.{rules, ◌≡◌, Some, true, string_bytes}
 use Rattle.serde_json.specs.View.{view}
-use Rattle.dbe_values.specs.Reading.{is_name, text_in}
-use Rattle.dbe_values.proofs.Known.{attributes_step}
-use Rattle.dbe_values.proofs.read.attributes_in.Goals as goal
+use Rattle.dbe_texts.specs.Reading.{is_name, text_in}
+use Rattle.dbe_texts.proofs.Known.{attributes_step}
+use Rattle.dbe_texts.proofs.read.attributes_in.Goals as goal
 
 pub loop-name-preserved : goal.loop-name-preserved
 loop-name-preserved c =

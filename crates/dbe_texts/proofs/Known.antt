@@ -9,10 +9,10 @@ use Rattle.serde_json.specs.View.{view, members_view}
 use Rattle.serde_json.specs.Events.{members_len}
 use Rattle.serde_json.specs.declared.value.Value.{Value}
 use Rattle.std.specs.declared.option.Option.{Option}
-use Rattle.dbe_values.specs.declared.value.AttrValue.{AttrValue}
-use Rattle.dbe_values.specs.declared.value.AttrValue.TheVariants.{S}
-use Rattle.dbe_values.specs.Json.{json_of, size_of}
-use Rattle.dbe_values.specs.Reading.{with_attribute, is_name, text_in, attributes_in}
+use Rattle.dbe_texts.specs.declared.value.AttrValue.{AttrValue}
+use Rattle.dbe_texts.specs.declared.value.AttrValue.TheVariants.{S}
+use Rattle.dbe_texts.specs.Json.{json_of, size_of}
+use Rattle.dbe_texts.specs.Reading.{with_attribute, is_name, text_in, attributes_in}
 
 pub json_known : (bytes : List ℕ) (d : Data) → IsUtf8 bytes × (read bytes ≡ Some d) → json_of bytes ≡ Some d
 json_known bytes d h = rw (is_utf8-from_IsUtf8 bytes h.0) h.1

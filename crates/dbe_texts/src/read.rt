@@ -1,6 +1,6 @@
 ghost use Rattle.std.specs.Prelude.{◌≡◌, IfOk, option_map, option_and_then};
 ghost use Rattle.serde_json.specs.View.{view, members_view};
-ghost use Rattle.dbe_values.specs.Reading.{text_in, is_name, attributes_in, item_in};
+ghost use Rattle.dbe_texts.specs.Reading.{text_in, is_name, attributes_in, item_in};
 
 use crate::{AttrValue, Item, size_of};
 use dbe_num::{Memory, Text};

@@ -3,9 +3,9 @@ use Rattle.std.proofs.lemmas.List.{drop_all}
 use Rattle.serde_json.specs.Data.{no_members, object}
 use Rattle.serde_json.specs.View.{members_view}
 use Rattle.serde_json.proofs.Views.{view-Object}
-use Rattle.dbe_values.specs.Writing.{with_members}
-use Rattle.dbe_values.proofs.Members.{with_members_put, with_members_end}
-use Rattle.dbe_values.proofs.write.item_to_json.Goals as goal
+use Rattle.dbe_texts.specs.Writing.{with_members}
+use Rattle.dbe_texts.proofs.Members.{with_members_put, with_members_end}
+use Rattle.dbe_texts.proofs.write.item_to_json.Goals as goal
 
 pub loop-i-preserved : goal.loop-i-preserved
 loop-i-preserved c =

@@ -1,5 +1,5 @@
 ghost use Rattle.std.specs.Prelude.{◌≡◌, [], ◌∷◌, ◌++◌, ◌<◌, IfOk, OnOk, OnErr, length, option_map, slice_get, Some};
-ghost use Rattle.dbe_values.specs.Attributes.{value_at};
+ghost use Rattle.dbe_texts.specs.Attributes.{value_at};
 
 use crate::AttrValue;
 use dbe_num::{Memory, Text};
@@ -16,7 +16,7 @@ pub struct Item {
 
 impl Model for Item {
     ghost use Rattle.std.specs.Prelude.{List, ℕ};
-    ghost use Rattle.dbe_values.specs.declared.value.AttrValue.{AttrValue};
+    ghost use Rattle.dbe_texts.specs.declared.value.AttrValue.{AttrValue};
 
     ghost Value = { List (List ℕ × AttrValue) };
 

@@ -3,9 +3,9 @@ use Rattle.std.specs.Prelude.{ℕ, ◌&&◌, Bool, List, [], length, nat_lt, nat
 use Rattle.std.specs.Ordering.{nat_cmp}
 use Rattle.std.specs.declared.cmp.Ordering.{Ordering}
 use Rattle.std.specs.Cmp.Lexicographic.{slice_cmp}
-use Rattle.dbe_values.specs.declared.value.AttrValue.{AttrValue}
-use Rattle.dbe_values.specs.declared.key.KeySchema.{KeySchema}
-use Rattle.dbe_values.specs.Attributes.{value_at, text_of}
+use Rattle.dbe_texts.specs.declared.value.AttrValue.{AttrValue}
+use Rattle.dbe_texts.specs.declared.key.KeySchema.{KeySchema}
+use Rattle.dbe_texts.specs.Attributes.{value_at, text_of}
 
 -- the text of a row's key, where it has one
 abbrev pub key_text : KeySchema → List (List ℕ × AttrValue) → Option (List ℕ)

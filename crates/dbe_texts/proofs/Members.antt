@@ -8,8 +8,8 @@ use Rattle.serde_json.specs.Data.{Members, put}
 use Rattle.serde_json.specs.View.{view, members_view}
 use Rattle.serde_json.specs.declared.value.Value.{Value}
 use Rattle.serde_json.proofs.Views.{members_view-insert_entry}
-use Rattle.dbe_values.specs.declared.value.AttrValue.{AttrValue}
-use Rattle.dbe_values.specs.Writing.{with_members, value_data}
+use Rattle.dbe_texts.specs.declared.value.AttrValue.{AttrValue}
+use Rattle.dbe_texts.specs.Writing.{with_members, value_data}
 
 drop_at : (attributes : List (List ℕ × AttrValue)) (i : ℕ) (a : List ℕ × AttrValue) → slice_get attributes i ≡ Some a → drop i attributes ≡ a ∷ drop (i + 1) attributes
 drop_at attributes i a is = drop_more attributes i a (slice_get_within attributes i a is) ∙ ap (λ x. x ∷ drop (i + 1) attributes) (get_or_from_slice_get attributes i a a is)

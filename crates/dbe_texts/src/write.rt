@@ -1,7 +1,7 @@
 ghost use Rattle.std.specs.Prelude.{◌≡◌, IfOk, codes};
 ghost use Rattle.serde_json.specs.View.{view};
 ghost use Rattle.serde_json.specs.Data.{object, member, no_members, string};
-ghost use Rattle.dbe_values.specs.Writing.{item_data, value_data};
+ghost use Rattle.dbe_texts.specs.Writing.{item_data, value_data};
 
 use crate::{AttrValue, Item};
 use dbe_num::Memory;

@@ -2,9 +2,9 @@
 use Rattle.std.specs.Prelude.{ℕ, ◌==◌, ◌&&◌, Bool, List, [], ◌∷◌, length, nat_lt, nat_le, Option, Some, None, option_and_then, codes, if◌then◌else◌}
 use Rattle.serde_json.specs.Data.{Data, Members, no_members, member}
 use Rattle.serde_json.specs.Find.{get, as_str, as_object}
-use Rattle.dbe_values.specs.declared.value.AttrValue.{AttrValue}
-use Rattle.dbe_values.specs.declared.value.AttrValue.TheVariants.{S}
-use Rattle.dbe_values.specs.Json.{size_of}
+use Rattle.dbe_texts.specs.declared.value.AttrValue.{AttrValue}
+use Rattle.dbe_texts.specs.declared.value.AttrValue.TheVariants.{S}
+use Rattle.dbe_texts.specs.Json.{size_of}
 
 -- the text of a value of type S
 abbrev pub text_in : Data → Option (List ℕ)

@@ -1,5 +1,5 @@
 ghost use Rattle.std.specs.Prelude.{◌≡◌, IfOk, option_map};
-ghost use Rattle.dbe_values.specs.Keys.{row_key};
+ghost use Rattle.dbe_texts.specs.Keys.{row_key};
 
 use crate::{AttrValue, Item};
 use dbe_num::{Memory, Text};

@@ -1,6 +1,6 @@
 ghost use Rattle.std.specs.Prelude.{◌≡◌, IfOk, option_map};
 ghost use Rattle.serde_json.specs.View.{view};
-ghost use Rattle.dbe_values.specs.Json.{json_of, size_of};
+ghost use Rattle.dbe_texts.specs.Json.{json_of, size_of};
 
 use dbe_num::Memory;
 use serde_json::Value;

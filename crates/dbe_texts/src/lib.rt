@@ -1,4 +1,4 @@
-//! The values of DynamoDB: attributes, items and their keys, and the JSON that spells them.
+//! Items whose attributes are texts, their keys, and the JSON that spells them.
 #![tactic(auto)]
 
 mod item;

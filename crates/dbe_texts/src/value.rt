@@ -1,5 +1,5 @@
 ghost use Rattle.std.specs.Prelude.{◌≡◌, IfOk};
-ghost use Rattle.dbe_values.specs.Attributes.{equal};
+ghost use Rattle.dbe_texts.specs.Attributes.{equal};
 
 use dbe_num::{Memory, Text};
 use std::alloc::Global;
