@@ -13,6 +13,10 @@ word_at bytes i = from_be_bytes w32
 abbrev pub byte_of : ℕ → ℕ → ℕ
 byte_of word i = slice_index (to_be_bytes w32 word) i
 
+-- the four bytes of a word
+unfoldable pub word_bytes : ℕ → List ℕ
+word_bytes word = to_be_bytes w32 word
+
 -- RotWord (5.2)
 unfoldable pub rot_word : ℕ → ℕ
 rot_word a = from_be_bytes w32 (byte_of a 1 ∷ byte_of a 2 ∷ byte_of a 3 ∷ byte_of a 0 ∷ [])

@@ -5,8 +5,8 @@ ghost use Rattle.dbe_aes.specs.Words.{key_schedule};
 ghost use Rattle.dbe_aes.specs.Cipher.{cipher};
 ghost use Rattle.dbe_aes.specs.Counters.{counter_mode, incremented};
 
-use crate::rounds::cipher_by_words;
 use crate::schedule::key_schedule;
+use crate::tables::cipher_by_tables;
 use std::marker::Model;
 
 /// A key of 32 bytes with its key schedule. Contracts see the key's bytes.
@@ -39,7 +39,7 @@ impl Key256 {
     pub fn block(&self, input: &[u8; 16]) -> [u8; 16]
         ensures { result ≡ cipher self.now input.now }
     {
-        cipher_by_words(&self.words, input)
+        cipher_by_tables(&self.words, input)
     }
 
     /// Adds to the bytes the enciphered counter blocks, beginning with `first` itself. In each next

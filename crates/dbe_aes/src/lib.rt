@@ -6,6 +6,7 @@ mod laws;
 mod rounds;
 mod schedule;
 mod substitution;
+mod tables;
 #[cfg(test)]
 mod tests;
 

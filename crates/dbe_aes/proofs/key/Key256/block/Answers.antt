@@ -4,4 +4,4 @@ use Rattle.dbe_aes.proofs.key.Key256.block.Goals as goal
 
 pub returns : goal.returns
 unfolding cipher
-returns c = rw (← c.self.view_is, ← c.self.invariant) c.cipher_by_words.ensures
+returns c = rw (← c.self.view_is, ← c.self.invariant) c.cipher_by_tables.ensures
