@@ -5,6 +5,7 @@ mod hash;
 mod laws;
 mod product;
 mod seal;
+mod table;
 #[cfg(test)]
 mod tests;
 
