@@ -3,6 +3,7 @@ use Rattle.std.proofs.Common.{◌≡◌, ℕ, zero, suc, ◌+◌, ◌*◌, ◌/�
 use Rattle.std.specs.Int.{w32, from_be_bytes}
 use Rattle.std.proofs.lemmas.Bool.{eqb-true}
 use Rattle.std.proofs.lemmas.Nat.{xor_shr, xor_mod, be_bytes_4}
+use Rattle.std.proofs.lemmas.List.FromFn.{fill_by_all}
 use Rattle.dbe_aes.specs.Bytes.{product_of_bits, product, substituted}
 use Rattle.dbe_aes.specs.Words.{word_bytes, byte_of}
 use Rattle.dbe_aes.specs.States.{add_round_key, mix_columns, shift_rows, sub_bytes}
@@ -118,11 +119,17 @@ pub last_column_is : (a b c d k n p q r s : ℕ) → n ≡ from_be_bytes w32 (p 
 unfolding last_column
 last_column_is a b c d k n p q r s is lp lq lr ls ep eq er es = word_sum n k p q r s is lp lq lr ls ∙ rw (ep, eq, er, es) refl
 
-pub columns-first : (w s : List ℕ)
-    → added_bytes (get_or s 0 0 ∷ get_or s 1 0 ∷ get_or s 2 0 ∷ get_or s 3 0 ∷ []) (word_bytes (get_or w 0 0))
-    ++ added_bytes (get_or s 4 0 ∷ get_or s 5 0 ∷ get_or s 6 0 ∷ get_or s 7 0 ∷ []) (word_bytes (get_or w 1 0))
-    ++ added_bytes (get_or s 8 0 ∷ get_or s 9 0 ∷ get_or s 10 0 ∷ get_or s 11 0 ∷ []) (word_bytes (get_or w 2 0))
-    ++ added_bytes (get_or s 12 0 ∷ get_or s 13 0 ∷ get_or s 14 0 ∷ get_or s 15 0 ∷ []) (word_bytes (get_or w 3 0))
-    ≡ add_round_key w 0 s
+pub columns-first : (w : List ℕ) (a b c d : ℕ)
+    → added_bytes (word_bytes a) (word_bytes (get_or w 0 0)) ++ added_bytes (word_bytes b) (word_bytes (get_or w 1 0))
+    ++ added_bytes (word_bytes c) (word_bytes (get_or w 2 0)) ++ added_bytes (word_bytes d) (word_bytes (get_or w 3 0))
+    ≡ add_round_key w 0 (word_bytes a ++ word_bytes b ++ word_bytes c ++ word_bytes d)
 unfolding add_round_key word_bytes
-columns-first w s = refl
+columns-first w a b c d = refl
+
+-- the word of four bytes
+pub word_of_bytes : (n p q r s : ℕ) → n ≡ from_be_bytes w32 (p ∷ q ∷ r ∷ s ∷ []) → p < 256 → q < 256 → r < 256 → s < 256 → word_bytes n ≡ p ∷ q ∷ r ∷ s ∷ []
+unfolding word_bytes
+word_of_bytes n p q r s is a b c d = be_bytes_4 (p ∷ q ∷ r ∷ s ∷ []) n refl (λ i. four_lt p q r s i a b c d) is
+
+pub sixteen : (b : List ℕ) → length b ≡ 16 → b ≡ get_or b 0 0 ∷ get_or b 1 0 ∷ get_or b 2 0 ∷ get_or b 3 0 ∷ get_or b 4 0 ∷ get_or b 5 0 ∷ get_or b 6 0 ∷ get_or b 7 0 ∷ get_or b 8 0 ∷ get_or b 9 0 ∷ get_or b 10 0 ∷ get_or b 11 0 ∷ get_or b 12 0 ∷ get_or b 13 0 ∷ get_or b 14 0 ∷ get_or b 15 0 ∷ []
+sixteen b long = fill_by_all (λ k. get_or b k 0) b 16 0 long (λ k lt. refl)

@@ -1,12 +1,13 @@
 //! The rounds by four tables, each entry of which is a substituted byte's part of a mixed column.
 
-ghost use Rattle.std.specs.Prelude.{◌≡◌, ◌<◌};
+ghost use Rattle.std.specs.Prelude.{◌≡◌, ◌<◌, [], ◌∷◌};
 ghost use Rattle.dbe_aes.specs.Columns.{columns, last_column, round_column};
 ghost use Rattle.dbe_aes.specs.Words.{word_bytes};
 ghost use Rattle.dbe_aes.specs.States.{add_round_key, mix_columns, shift_rows, sub_bytes};
 ghost use Rattle.dbe_aes.specs.Cipher.{cipher_by_words};
 
 use crate::substitution::substitute;
+use std::simd::u32x4;
 
 // The part of the byte in the first row.
 #[rattlefmt::skip]
@@ -208,42 +209,48 @@ fn last_round(words: &[u32; 60], s: [u32; 4]) -> [u32; 4]
     ]
 }
 
-// The block's columns with the first round key added.
+// The first round key added to four columns.
 #[inline(always)]
-fn first_columns(words: &[u32; 60], block: &[u8; 16]) -> [u32; 4]
-    ensures { columns result ≡ add_round_key words.now 0 block.now }
+fn first_round(words: &[u32; 60], s: [u32; 4]) -> [u32; 4]
+    ensures { columns result ≡ add_round_key words.now 0 (columns s) }
+{
+    let [a, b, c, d] = s;
+    [a ^ words[0], b ^ words[1], c ^ words[2], d ^ words[3]]
+}
+
+/// The columns of a block.
+#[inline(always)]
+pub fn columns_of(block: &[u8; 16]) -> [u32; 4]
+    ensures { columns result ≡ block.now }
 {
     [
-        u32::from_be_bytes([block[0], block[1], block[2], block[3]]) ^ words[0],
-        u32::from_be_bytes([block[4], block[5], block[6], block[7]]) ^ words[1],
-        u32::from_be_bytes([block[8], block[9], block[10], block[11]]) ^ words[2],
-        u32::from_be_bytes([block[12], block[13], block[14], block[15]]) ^ words[3],
+        u32::from_be_bytes([block[0], block[1], block[2], block[3]]),
+        u32::from_be_bytes([block[4], block[5], block[6], block[7]]),
+        u32::from_be_bytes([block[8], block[9], block[10], block[11]]),
+        u32::from_be_bytes([block[12], block[13], block[14], block[15]]),
     ]
 }
 
 // The bytes of four columns.
 #[inline(always)]
-fn bytes_of(s: [u32; 4]) -> [u8; 16]
-    ensures { result ≡ columns s }
+fn bytes_of(a: u32, b: u32, c: u32, d: u32) -> [u8; 16]
+    ensures { result ≡ columns (a ∷ b ∷ c ∷ d ∷ []) }
 {
-    let a = s[0].to_be_bytes();
-    let b = s[1].to_be_bytes();
-    let c = s[2].to_be_bytes();
-    let d = s[3].to_be_bytes();
-    [
-        a[0], a[1], a[2], a[3], b[0], b[1], b[2], b[3], c[0], c[1], c[2], c[3], d[0], d[1], d[2],
-        d[3],
-    ]
+    u32x4::from_array([a, b, c, d])
+        .to_le_bytes()
+        .swizzle([3, 2, 1, 0, 7, 6, 5, 4, 11, 10, 9, 8, 15, 14, 13, 12])
+        .to_array()
 }
 
-/// A block enciphered with the words of a key schedule, by the tables.
-pub fn cipher_by_tables(words: &[u32; 60], block: &[u8; 16]) -> [u8; 16]
-    ensures { result ≡ cipher_by_words words.now block.now }
+/// The block of four columns enciphered with the words of a key schedule, by the tables.
+pub fn cipher_columns(words: &[u32; 60], a: u32, b: u32, c: u32, d: u32) -> [u8; 16]
+    ensures { result ≡ cipher_by_words words.now (columns (a ∷ b ∷ c ∷ d ∷ [])) }
 {
-    let mut s = first_columns(words, block);
+    let mut s = first_round(words, [a, b, c, d]);
     for n in 0..13 {
         let next = round(words, n + 1, s);
         s = next;
     }
-    bytes_of(last_round(words, s))
+    let [a, b, c, d] = last_round(words, s);
+    bytes_of(a, b, c, d)
 }

@@ -1,7 +1,6 @@
 use crate::Key256;
 use crate::rounds::cipher_by_words;
 use crate::schedule::key_schedule;
-use crate::tables::cipher_by_tables;
 
 const KEY: [u8; 32] = [
     0, 1, 2, 3, 4, 5, 6, 7, 8, 9, 10, 11, 12, 13, 14, 15, 16, 17, 18, 19, 20, 21, 22, 23, 24, 25,
@@ -76,7 +75,7 @@ fn same_blocks(rt: HostRuntime) {
     for i in 0..32 {
         let words = key_schedule(&key);
         let expected = cipher_by_words(&words, &block);
-        assert_eq!(rt; cipher_by_tables(&words, &block), expected);
+        assert_eq!(rt; Key256::new(&key).block(&block), expected);
         key[i] ^= expected[0];
         block = expected;
     }
