@@ -1,5 +1,5 @@
 -- The bytes of a vector of four words.
-use Rattle.std.proofs.Common.{◌≡◌, ℕ, ◌+◌, ◌*◌, ◌/◌, ◌%◌, ◌^◌, ◌<◌, refl, arith}
+use Rattle.std.proofs.Common.{◌≡◌, ℕ, ◌+◌, ◌*◌, ◌/◌, ◌%◌, ◌^◌, ◌<◌, arith}
 
 pub byte_0 : (a y : ℕ) → (a + 4294967296 * y) % 256 ≡ a % 256
 byte_0 a y = omega arith

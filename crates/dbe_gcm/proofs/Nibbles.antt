@@ -1,9 +1,9 @@
 -- Products four bits at a time, by a table.
-use Rattle.std.proofs.Common.{◌≡◌, ℕ, zero, suc, ◌+◌, ◌-◌, ◌*◌, ◌/◌, ◌%◌, ◌^◌, ◌<◌, ◌≤◌, List, bit_xor, bit_and, refl, sym, ap, ◌∙◌, arith, length, get_or, map}
+use Rattle.std.proofs.Common.{◌≡◌, ℕ, ◌+◌, ◌-◌, ◌*◌, ◌/◌, ◌%◌, ◌^◌, ◌<◌, ◌≤◌, List, bit_xor, bit_and, refl, sym, ap, ◌∙◌, arith, length, get_or, map}
 use Rattle.std.specs.Prelude.{set}
 use Rattle.std.specs.List.{range_with_len}
 use Rattle.std.specs.Int.Bits.{xor_assoc, xor_zero_r}
-use Rattle.std.proofs.lemmas.Nat.{and_mask, shr-shr}
+use Rattle.std.proofs.lemmas.Nat.{and_mask}
 use Rattle.std.proofs.lemmas.List.FromFn.{get_or-map-range_with_len}
 use Rattle.std.proofs.lemmas.List.Edits.{fill_by_more}
 use Rattle.dbe_gcm.specs.Blocks.{product_of_bits, product, raised}

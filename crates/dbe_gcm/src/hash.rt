@@ -5,7 +5,7 @@ ghost use Rattle.dbe_gcm.specs.Hash.{block_at, blocks_of, filled, ghash, lengths
 ghost use Rattle.dbe_gcm.specs.Tables.{IsTable};
 ghost use Rattle.dbe_gcm.specs.Gcm.{hash_of};
 
-use crate::table::{table_of, times};
+use crate::table::{fill_table, times};
 
 // The block of the 16 bytes from `at` on.
 #[inline(always)]
@@ -84,7 +84,8 @@ fn lengths_block(aad: &[u8], text: &[u8]) -> u128
 pub fn hash(h: u128, aad: &[u8], text: &[u8]) -> u128
     ensures { result ≡ hash_of h aad.now text.now }
 {
-    let table = table_of(h);
+    let mut table = [0u128; 512];
+    fill_table(&mut table, h);
     let sum = absorb(&table, absorb(&table, 0, aad), text);
     absorb_block(&table, sum, lengths_block(aad, text))
 }

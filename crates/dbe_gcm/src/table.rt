@@ -47,11 +47,10 @@ fn next_row(v: u128) -> u128
     times_x(times_x(times_x(times_x(v))))
 }
 
-/// The table of the block `h`.
-pub fn table_of(h: u128) -> [u128; 512]
-    ensures { IsTable h result }
+/// Writes the table of the block `h`: 32 rows of 16 products, the row of the first four bits first.
+pub fn fill_table(table: &mut [u128; 512], h: u128)
+    ensures { IsTable h table.new }
 {
-    let mut table = [0u128; 512];
     let mut power = h;
     for i in 0..32 {
         let row = row(power);
@@ -60,7 +59,6 @@ pub fn table_of(h: u128) -> [u128; 512]
         }
         power = next_row(power);
     }
-    table
 }
 
 // The sum with the products of 64 bits, whose first four have row `first`.

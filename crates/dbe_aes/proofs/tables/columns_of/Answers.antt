@@ -1,4 +1,4 @@
-use Rattle.std.proofs.Common.{refl, get_or, sym, ◌∙◌}
+use Rattle.std.proofs.Common.{get_or, sym}
 use Rattle.dbe_aes.specs.Columns.{columns}
 use Rattle.dbe_aes.proofs.Rows.{word_of_bytes, sixteen}
 use Rattle.dbe_aes.proofs.tables.columns_of.Goals as goal

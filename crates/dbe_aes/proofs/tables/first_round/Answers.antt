@@ -1,4 +1,4 @@
-use Rattle.std.proofs.Common.{refl, get_or}
+use Rattle.std.proofs.Common.{get_or}
 use Rattle.dbe_aes.specs.Columns.{columns}
 use Rattle.dbe_aes.proofs.Rows.{bytes-xor, columns-first}
 use Rattle.dbe_aes.proofs.tables.first_round.Goals as goal

@@ -1,4 +1,3 @@
-use Rattle.std.proofs.Common.{refl, ◌∙◌}
 use Rattle.dbe_aes.specs.Columns.{columns}
 use Rattle.dbe_aes.proofs.Rows.{columns-round}
 use Rattle.dbe_aes.proofs.tables.round.Goals as goal

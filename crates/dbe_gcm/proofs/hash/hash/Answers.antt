@@ -8,7 +8,7 @@ pub returns : goal.returns
 unfolding hash_of
 returns c =
     let h = c.args.h in
-    let table = c.table_of-table.ensures in
+    let table = c.fill_table.ensures in
     let first = c.absorb.ensures h [] table (sym (ghash-nil c.args.h)) in
     let second = c.absorb-sum.ensures h (blocks_of c.args.aad.now) table first in
     let third = c.absorb_block.ensures h (blocks_of c.args.aad.now ++ blocks_of c.args.text.now) table second in

@@ -1,4 +1,3 @@
-use Rattle.std.proofs.Common.{refl}
 use Rattle.std.specs.Int.Bits.{xor_zero_r}
 use Rattle.dbe_gcm.specs.Blocks.{product_of_bits}
 use Rattle.dbe_gcm.proofs.table.row.Goals as goal

@@ -1,4 +1,4 @@
-use Rattle.std.proofs.Common.{◌≡◌, ◌∙◌, refl, ◌^◌, ◌%◌, bit_and}
+use Rattle.std.proofs.Common.{◌≡◌, ◌∙◌, ◌^◌, ◌%◌, bit_and}
 use Rattle.std.proofs.lemmas.Nat.{and_mask}
 use Rattle.dbe_gcm.proofs.Nibbles.{halves}
 use Rattle.dbe_gcm.proofs.table.times.Goals as goal

@@ -1,8 +1,7 @@
-use Rattle.std.proofs.Common.{◌≡◌, ◌<◌, ◌≤◌, ◌+◌, ◌*◌, ◌%◌, ◌-◌, ◌/◌, ℕ, length, get_or, bit_xor, arith, refl, sym, ap, ◌∙◌, [], ◌∷◌}
-use Rattle.dbe_aes.specs.Cipher.{cipher}
+use Rattle.std.proofs.Common.{◌≡◌, ◌+◌, ◌*◌, ◌-◌, ◌/◌, ℕ, length, get_or, arith, sym, ap, ◌∙◌, [], ◌∷◌}
 use Rattle.dbe_aes.specs.Columns.{columns}
-use Rattle.dbe_aes.specs.Counters.{counter_block, stream_byte, incremented}
-use Rattle.dbe_aes.proofs.Counters.{AddedTo, added_none, added_more, mode_all, incremented-columns, counter_block-more}
+use Rattle.dbe_aes.specs.Counters.{counter_block, incremented}
+use Rattle.dbe_aes.proofs.Counters.{added_none, added_more, mode_all, incremented-columns, counter_block-more}
 use Rattle.dbe_aes.proofs.key.Key256.ctr.Goals as goal
 
 pub loop-j-init : goal.loop-j-init

@@ -1,5 +1,4 @@
-use Rattle.std.proofs.Common.{◌∙◌, ap, refl}
-use Rattle.dbe_aes.specs.Cipher.{cipher, cipher_by_words}
+use Rattle.dbe_aes.specs.Cipher.{cipher}
 use Rattle.dbe_aes.proofs.key.Key256.enciphered.Goals as goal
 
 pub returns : goal.returns
