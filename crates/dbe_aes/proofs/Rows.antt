@@ -1,15 +1,16 @@
 -- The four tables, checked entry by entry, and the bytes of sums of words.
-use Rattle.std.proofs.Common.{◌≡◌, ℕ, zero, suc, ◌+◌, ◌*◌, ◌/◌, ◌%◌, ◌^◌, ◌<◌, List, [], ◌∷◌, ◌++◌, Bool, true, false, ◌&&◌, ◌==◌, bit_xor, refl, get_or, arith, length, ap, ◌∙◌}
+use Rattle.std.proofs.Common.{◌≡◌, ℕ, zero, suc, ◌+◌, ◌*◌, ◌/◌, ◌%◌, ◌^◌, ◌<◌, List, [], ◌∷◌, ◌++◌, Bool, true, false, ◌&&◌, ◌==◌, bit_xor, refl, get_or, take, drop, arith, length, ap, ◌∙◌}
 use Rattle.std.specs.Int.{w32, from_be_bytes}
 use Rattle.std.proofs.lemmas.Bool.{eqb-true}
 use Rattle.std.proofs.lemmas.Nat.{xor_shr, xor_mod, be_bytes_4}
+use Rattle.std.proofs.lemmas.List.{get_or-take, get_or-drop}
 use Rattle.std.proofs.lemmas.List.FromFn.{fill_by_all}
 use Rattle.dbe_aes.specs.Bytes.{product_of_bits, product, substituted}
 use Rattle.dbe_aes.specs.Words.{word_bytes, byte_of}
 use Rattle.dbe_aes.specs.States.{add_round_key, mix_columns, shift_rows, sub_bytes}
 use Rattle.dbe_aes.specs.Columns.{added_bytes, round_column, last_column}
 use Rattle.dbe_aes.specs.declared.substitution.TheConstants.{SUBSTITUTION}
-use Rattle.dbe_aes.specs.declared.tables.TheConstants.{ROW_0, ROW_1, ROW_2, ROW_3}
+use Rattle.dbe_aes.specs.declared.tables.TheConstants.{ROWS}
 use Rattle.dbe_aes.proofs.Entries.{both, substitution_entry}
 
 -- whether the bytes of the word y are p, q, r, s
@@ -33,33 +34,42 @@ row_at p q r s (x ∷ xs) (y ∷ ys) zero h lt =
     rw (eqb-true (y / 2 ^ 24 % 256) (p x) e.0, eqb-true (y / 2 ^ 16 % 256) (q x) f.0, eqb-true (y / 2 ^ 8 % 256) (r x) g.0, eqb-true (y % 256) (s x) g.1) refl
 row_at p q r s (x ∷ xs) (y ∷ ys) (suc k) h lt = row_at p q r s xs ys k (both _ _ h).1 (omega arith)
 
-are_rows_0 : are_rows (product 2) (λ x. x) (λ x. x) (product 3) SUBSTITUTION ROW_0 ≡ true
+-- the 256 entries from number n on
+abbrev rows_from : ℕ → List ℕ
+rows_from n = take 256 (drop n ROWS)
+
+rows_at : (n x : ℕ) → x < 256 → get_or (rows_from n) x 0 ≡ get_or ROWS (n + x) 0
+rows_at n x lt = get_or-take 256 (drop n ROWS) x 0 lt ∙ get_or-drop n ROWS x 0
+
+are_rows_0 : are_rows (product 2) (λ x. x) (λ x. x) (product 3) SUBSTITUTION (rows_from 0) ≡ true
 unfolding product_of_bits product
 are_rows_0 = refl
 
-are_rows_1 : are_rows (product 3) (product 2) (λ x. x) (λ x. x) SUBSTITUTION ROW_1 ≡ true
+are_rows_1 : are_rows (product 3) (product 2) (λ x. x) (λ x. x) SUBSTITUTION (rows_from 256) ≡ true
 unfolding product_of_bits product
 are_rows_1 = refl
 
-are_rows_2 : are_rows (λ x. x) (product 3) (product 2) (λ x. x) SUBSTITUTION ROW_2 ≡ true
+are_rows_2 : are_rows (λ x. x) (product 3) (product 2) (λ x. x) SUBSTITUTION (rows_from 512) ≡ true
 unfolding product_of_bits product
 are_rows_2 = refl
 
-are_rows_3 : are_rows (λ x. x) (λ x. x) (product 3) (product 2) SUBSTITUTION ROW_3 ≡ true
+are_rows_3 : are_rows (λ x. x) (λ x. x) (product 3) (product 2) SUBSTITUTION (rows_from 768) ≡ true
 unfolding product_of_bits product
 are_rows_3 = refl
 
-pub row_0 : (x : ℕ) → x < 256 → word_bytes (get_or ROW_0 x 0) ≡ product 2 (substituted x) ∷ substituted x ∷ substituted x ∷ product 3 (substituted x) ∷ []
-row_0 x lt = rw (substitution_entry x lt) at (row_at (product 2) (λ x. x) (λ x. x) (product 3) SUBSTITUTION ROW_0 x are_rows_0 lt)
+pub row_0 : (x : ℕ) → x < 256 → word_bytes (get_or ROWS x 0) ≡ product 2 (substituted x) ∷ substituted x ∷ substituted x ∷ product 3 (substituted x) ∷ []
+row_0 x lt =
+    let at : 0 + x ≡ x = omega arith in
+    rw (substitution_entry x lt, rows_at 0 x lt, at) at (row_at (product 2) (λ x. x) (λ x. x) (product 3) SUBSTITUTION (rows_from 0) x are_rows_0 lt)
 
-pub row_1 : (x : ℕ) → x < 256 → word_bytes (get_or ROW_1 x 0) ≡ product 3 (substituted x) ∷ product 2 (substituted x) ∷ substituted x ∷ substituted x ∷ []
-row_1 x lt = rw (substitution_entry x lt) at (row_at (product 3) (product 2) (λ x. x) (λ x. x) SUBSTITUTION ROW_1 x are_rows_1 lt)
+pub row_1 : (x : ℕ) → x < 256 → word_bytes (get_or ROWS (256 + x) 0) ≡ product 3 (substituted x) ∷ product 2 (substituted x) ∷ substituted x ∷ substituted x ∷ []
+row_1 x lt = rw (substitution_entry x lt, rows_at 256 x lt) at (row_at (product 3) (product 2) (λ x. x) (λ x. x) SUBSTITUTION (rows_from 256) x are_rows_1 lt)
 
-pub row_2 : (x : ℕ) → x < 256 → word_bytes (get_or ROW_2 x 0) ≡ substituted x ∷ product 3 (substituted x) ∷ product 2 (substituted x) ∷ substituted x ∷ []
-row_2 x lt = rw (substitution_entry x lt) at (row_at (λ x. x) (product 3) (product 2) (λ x. x) SUBSTITUTION ROW_2 x are_rows_2 lt)
+pub row_2 : (x : ℕ) → x < 256 → word_bytes (get_or ROWS (512 + x) 0) ≡ substituted x ∷ product 3 (substituted x) ∷ product 2 (substituted x) ∷ substituted x ∷ []
+row_2 x lt = rw (substitution_entry x lt, rows_at 512 x lt) at (row_at (λ x. x) (product 3) (product 2) (λ x. x) SUBSTITUTION (rows_from 512) x are_rows_2 lt)
 
-pub row_3 : (x : ℕ) → x < 256 → word_bytes (get_or ROW_3 x 0) ≡ substituted x ∷ substituted x ∷ product 3 (substituted x) ∷ product 2 (substituted x) ∷ []
-row_3 x lt = rw (substitution_entry x lt) at (row_at (λ x. x) (λ x. x) (product 3) (product 2) SUBSTITUTION ROW_3 x are_rows_3 lt)
+pub row_3 : (x : ℕ) → x < 256 → word_bytes (get_or ROWS (768 + x) 0) ≡ substituted x ∷ substituted x ∷ product 3 (substituted x) ∷ product 2 (substituted x) ∷ []
+row_3 x lt = rw (substitution_entry x lt, rows_at 768 x lt) at (row_at (λ x. x) (λ x. x) (product 3) (product 2) SUBSTITUTION (rows_from 768) x are_rows_3 lt)
 
 -- byte i of a sum of words
 byte-xor : (x y i : ℕ) → bit_xor x y / 2 ^ i % 2 ^ 8 ≡ bit_xor (x / 2 ^ i % 2 ^ 8) (y / 2 ^ i % 2 ^ 8)
@@ -74,14 +84,14 @@ byte_lt x i = omega arith
 
 -- a column of a round is a sum of entries
 pub round_column_is : (a b c d k p q r s : ℕ) → p ≡ byte_of a 0 → q ≡ byte_of b 1 → r ≡ byte_of c 2 → s ≡ byte_of d 3
-    → word_bytes (bit_xor (bit_xor (bit_xor (bit_xor (get_or ROW_0 p 0) (get_or ROW_1 q 0)) (get_or ROW_2 r 0)) (get_or ROW_3 s 0)) k) ≡ round_column a b c d k
+    → word_bytes (bit_xor (bit_xor (bit_xor (bit_xor (get_or ROWS p 0) (get_or ROWS (256 + q) 0)) (get_or ROWS (512 + r) 0)) (get_or ROWS (768 + s) 0)) k) ≡ round_column a b c d k
 unfolding round_column
 round_column_is a b c d k p q r s ep eq er es =
     let lp : p < 256 = omega arith in
     let lq : q < 256 = omega arith in
     let lr : r < 256 = omega arith in
     let ls : s < 256 = omega arith in
-    bytes-xor _ k ∙ ap (λ xs. added_bytes xs (word_bytes k)) (bytes-xor _ (get_or ROW_3 s 0) ∙ ap (λ xs. added_bytes xs (word_bytes (get_or ROW_3 s 0))) (bytes-xor _ (get_or ROW_2 r 0) ∙ ap (λ xs. added_bytes xs (word_bytes (get_or ROW_2 r 0))) (bytes-xor (get_or ROW_0 p 0) (get_or ROW_1 q 0))))
+    bytes-xor _ k ∙ ap (λ xs. added_bytes xs (word_bytes k)) (bytes-xor _ (get_or ROWS (768 + s) 0) ∙ ap (λ xs. added_bytes xs (word_bytes (get_or ROWS (768 + s) 0))) (bytes-xor _ (get_or ROWS (512 + r) 0) ∙ ap (λ xs. added_bytes xs (word_bytes (get_or ROWS (512 + r) 0))) (bytes-xor (get_or ROWS p 0) (get_or ROWS (256 + q) 0))))
     ∙ rw (row_0 p lp, row_1 q lq, row_2 r lr, row_3 s ls, ep, eq, er, es) refl
 
 -- the columns of a round
