@@ -1,14 +1,26 @@
 -- The counter stream, byte by byte.
-use Rattle.std.proofs.Common.{inl, inr, ◌≡◌, ℕ, suc, ◌+◌, ◌-◌, ◌*◌, ◌/◌, ◌%◌, ◌<◌, ◌≤◌, List, [], ◌∷◌, bit_xor, refl, sym, get_or, take, arith, length, ap, ◌∙◌}
-use Rattle.std.proofs.lemmas.List.{get_or-take, length-take-le, length-map, ext_get_or}
+use Rattle.std.proofs.Common.{inl, inr, ◌≡◌, ℕ, ◌+◌, ◌-◌, ◌*◌, ◌/◌, ◌%◌, ◌^◌, ◌<◌, ◌≤◌, List, [], ◌∷◌, bit_xor, refl, get_or, arith, add-one, length, ap, ◌∙◌}
+use Rattle.std.proofs.lemmas.List.{length-map, ext_get_or}
 use Rattle.std.proofs.lemmas.List.FromFn.{fill_by_all, get_or-map-range_with_len, length-range_with_len}
 use Rattle.std.proofs.lemmas.Bool.{cases_lt}
 use Rattle.std.specs.Int.Bits.{xor_assoc, xor_self, xor_zero_r}
 use Rattle.dbe_aes.specs.Cipher.{cipher}
-use Rattle.dbe_aes.specs.Counters.{counter_block, stream_byte, counter_mode}
+use Rattle.std.specs.Int.{w32, from_be_bytes, to_be_bytes}
+use Rattle.std.proofs.lemmas.Nat.{from_be_bytes-to_be_bytes_4}
+use Rattle.dbe_aes.specs.Words.{word_bytes}
+use Rattle.dbe_aes.specs.Columns.{columns}
+use Rattle.dbe_aes.specs.Counters.{incremented, counter_block, stream_byte, counter_mode}
 
-pub first_twelve : (b : List ℕ) → length b ≡ 16 → take 12 b ≡ get_or b 0 0 ∷ get_or b 1 0 ∷ get_or b 2 0 ∷ get_or b 3 0 ∷ get_or b 4 0 ∷ get_or b 5 0 ∷ get_or b 6 0 ∷ get_or b 7 0 ∷ get_or b 8 0 ∷ get_or b 9 0 ∷ get_or b 10 0 ∷ get_or b 11 0 ∷ []
-first_twelve b long = fill_by_all (λ k. get_or b k 0) (take 12 b) 12 0 (length-take-le 12 b (omega arith)) (λ k lt. get_or-take 12 b k 0 lt)
+-- the next counter block, of four columns
+pub incremented-columns : (a b c n : ℕ) → n < 2 ^ 32 → incremented (columns (a ∷ b ∷ c ∷ n ∷ [])) ≡ columns (a ∷ b ∷ c ∷ ((n + 1) % 2 ^ 32) ∷ [])
+unfolding incremented columns word_bytes
+incremented-columns a b c n lt =
+    let count : from_be_bytes w32 (to_be_bytes w32 n) ≡ n = from_be_bytes-to_be_bytes_4 n lt in
+    rw count refl
+
+pub counter_block-more : (first : List ℕ) (j : ℕ) → incremented (counter_block first j) ≡ counter_block first (j + 1)
+unfolding counter_block
+counter_block-more first j = rw add-one refl
 
 -- byte i of enciphered block j stands at 16 j + i of the stream
 pub stream_at : (key first counter : List ℕ) (j i k : ℕ) → counter ≡ counter_block first j → i < 16 → k ≡ 16 * j + i → get_or (cipher key counter) i 0 ≡ stream_byte key first k

@@ -1,5 +1,5 @@
 -- The key schedule, word after word.
-use Rattle.std.proofs.Common.{◌≡◌, ℕ, suc, ◌+◌, ◌-◌, ◌*◌, ◌<◌, ◌≤◌, List, [], ◌∷◌, ◌++◌, bit_xor, refl, sym, get_or, take, arith, length, ap, ◌∙◌}
+use Rattle.std.proofs.Common.{◌≡◌, ℕ, suc, ◌+◌, ◌-◌, ◌*◌, ◌<◌, List, bit_xor, refl, get_or, take, arith, length, ◌∙◌}
 use Rattle.std.proofs.lemmas.List.{get_or-take, length-take-le, take_more_set}
 use Rattle.std.proofs.lemmas.List.FromFn.{fill_by_all}
 use Rattle.std.specs.Prelude.{set}

@@ -1,3 +1,5 @@
-pub mod Tables
+pub mod Entries
 pub mod Expansion
 pub mod Counters
+pub mod Rows
+pub mod Lanes

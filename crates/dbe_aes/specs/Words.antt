@@ -1,6 +1,6 @@
 -- The key expansion of a key of 32 bytes (FIPS 197, 5.2, with Nk = 8). A word is the number of its
 -- four bytes, the first of them the highest.
-use Rattle.std.specs.Prelude.{ℕ, zero, suc, ◌+◌, ◌-◌, ◌*◌, ◌/◌, ◌%◌, ◌^◌, ◌==◌, List, [], ◌∷◌, ◌++◌, bit_xor, slice_index, if◌then◌else◌}
+use Rattle.std.specs.Prelude.{ℕ, zero, suc, ◌+◌, ◌-◌, ◌/◌, ◌%◌, ◌==◌, List, [], ◌∷◌, ◌++◌, bit_xor, slice_index, if◌then◌else◌}
 use Rattle.std.specs.Int.{w32, from_be_bytes, to_be_bytes}
 use Rattle.dbe_aes.specs.Bytes.{substituted}
 
@@ -12,6 +12,10 @@ word_at bytes i = from_be_bytes w32
 -- byte i of a word
 abbrev pub byte_of : ℕ → ℕ → ℕ
 byte_of word i = slice_index (to_be_bytes w32 word) i
+
+-- the four bytes of a word
+unfoldable pub word_bytes : ℕ → List ℕ
+word_bytes word = to_be_bytes w32 word
 
 -- RotWord (5.2)
 unfoldable pub rot_word : ℕ → ℕ

@@ -1,12 +1,13 @@
 //! A key, ready for use.
 
-ghost use Rattle.std.specs.Prelude.{◌≡◌, ℕ, ◌+◌, ◌*◌, ◌%◌, ◌<◌, ◌≤◌, List, length, slice_index, bit_xor};
+ghost use Rattle.std.specs.Prelude.{◌≡◌, ℕ, ◌+◌, ◌*◌, ◌%◌, ◌<◌, ◌≤◌, List, [], ◌∷◌, length, slice_index, bit_xor};
 ghost use Rattle.dbe_aes.specs.Words.{key_schedule};
 ghost use Rattle.dbe_aes.specs.Cipher.{cipher};
-ghost use Rattle.dbe_aes.specs.Counters.{counter_mode, incremented};
+ghost use Rattle.dbe_aes.specs.Columns.{columns};
+ghost use Rattle.dbe_aes.specs.Counters.{counter_mode};
 
-use crate::rounds::cipher_by_words;
 use crate::schedule::key_schedule;
+use crate::tables::{cipher_columns, columns_of};
 use std::marker::Model;
 
 /// A key of 32 bytes with its key schedule. Contracts see the key's bytes.
@@ -39,7 +40,16 @@ impl Key256 {
     pub fn block(&self, input: &[u8; 16]) -> [u8; 16]
         ensures { result ≡ cipher self.now input.now }
     {
-        cipher_by_words(&self.words, input)
+        let [a, b, c, d] = columns_of(input);
+        self.enciphered(a, b, c, d)
+    }
+
+    // The block of four columns, enciphered.
+    #[inline(always)]
+    fn enciphered(&self, a: u32, b: u32, c: u32, d: u32) -> [u8; 16]
+        ensures { result ≡ cipher self.now (columns (a ∷ b ∷ c ∷ d ∷ [])) }
+    {
+        cipher_columns(&self.words, a, b, c, d)
     }
 
     /// Adds to the bytes the enciphered counter blocks, beginning with `first` itself. In each next
@@ -49,27 +59,16 @@ impl Key256 {
         ensures { bytes.new ≡ counter_mode self.now first.now bytes.old }
     {
         let blocks = bytes.len() / 16;
-        let mut counter = *first;
+        let [a, b, c, start] = columns_of(first);
+        let mut count = start;
         for j in 0..blocks {
-            add_block(bytes, 16 * j, &self.block(&counter));
-            counter = incremented(&counter);
+            add_block(bytes, 16 * j, &self.enciphered(a, b, c, count));
+            count = count.wrapping_add(1);
         }
         if bytes.len() % 16 != 0 {
-            add_rest(bytes, 16 * blocks, &self.block(&counter));
+            add_rest(bytes, 16 * blocks, &self.enciphered(a, b, c, count));
         }
     }
-}
-
-// The next counter block.
-fn incremented(block: &[u8; 16]) -> [u8; 16]
-    ensures { result ≡ incremented block.now }
-{
-    let count = u32::from_be_bytes([block[12], block[13], block[14], block[15]]);
-    let [a, b, c, d] = count.wrapping_add(1).to_be_bytes();
-    [
-        block[0], block[1], block[2], block[3], block[4], block[5], block[6], block[7], block[8],
-        block[9], block[10], block[11], a, b, c, d,
-    ]
 }
 
 // Adds a block to the 16 bytes from `at` on.

@@ -1,9 +1,15 @@
 //! What the counter stream promises, in its definitions' words.
 
-ghost use Rattle.std.specs.Prelude.{◌≡◌, ℕ, List};
-ghost use Rattle.dbe_aes.specs.Counters.{counter_mode};
+ghost use Rattle.std.specs.Prelude.{◌≡◌, ◌-◌, ◌^◌, ℕ, List, [], ◌∷◌, ◌++◌, take};
+ghost use Rattle.dbe_aes.specs.Words.{word_at};
+ghost use Rattle.dbe_aes.specs.Counters.{counter_mode, incremented};
 
 /// To decipher is to encipher again: the counter stream, added twice, gives the bytes back.
 pub fn ctr_twice()
     ensures { (key first bytes : List ℕ) → counter_mode key first (counter_mode key first bytes) ≡ bytes }
+{}
+
+/// After the counter ffffffff comes 00000000, and the first 12 bytes of the block stay.
+pub fn counter_wraps()
+    ensures { (block : List ℕ) → word_at block 12 ≡ 2 ^ 32 - 1 → incremented block ≡ take 12 block ++ 0 ∷ 0 ∷ 0 ∷ 0 ∷ [] }
 {}

@@ -1,11 +1,11 @@
 -- GHASH, block after block.
-use Rattle.std.proofs.Common.{inl, inr, ◌≡◌, ℕ, zero, suc, ◌+◌, ◌-◌, ◌*◌, ◌/◌, ◌%◌, ◌^◌, ◌<◌, ◌≤◌, List, [], ◌∷◌, ◌++◌, bit_xor, refl, sym, ap, ◌∙◌, arith, add-one, length, get_or, take, drop, map, length-append, length-drop, append_assoc}
+use Rattle.std.proofs.Common.{inl, inr, ◌≡◌, ℕ, suc, ◌+◌, ◌-◌, ◌*◌, ◌/◌, ◌%◌, ◌^◌, ◌<◌, ◌≤◌, List, [], ◌∷◌, ◌++◌, bit_xor, refl, sym, ap, ◌∙◌, arith, add-one, length, get_or, take, drop, map, length-append, length-drop}
 use Rattle.std.specs.Prelude.{replicate}
 use Rattle.std.specs.List.{range_with_len}
 use Rattle.std.specs.Int.{w128, from_be_bytes}
 use Rattle.std.specs.Int.Bits.{xor_assoc, xor_zero_r}
 use Rattle.std.proofs.lemmas.Bool.{cases_lt}
-use Rattle.std.proofs.lemmas.List.{ext_get_or, length_push, length-replicate, get_or-replicate, get_or_append_left, get_or-append_right, get_or_past, get_or-take, get_or-drop, length-take-le, take-append-le, drop-append-le, take_more, take_all, append-nil}
+use Rattle.std.proofs.lemmas.List.{ext_get_or, length_push, length-replicate, get_or-replicate, get_or_append_left, get_or-append_right, get_or_past, get_or-take, get_or-drop, length-take-le, take-append-le, drop-append-le, take_more, take_all}
 use Rattle.std.proofs.lemmas.List.FromFn.{fill_by_all, take-map-range_with_len, get_or-map-range_with_len, length-map-range_with_len}
 use Rattle.dbe_gcm.specs.Blocks.{product, power}
 use Rattle.dbe_gcm.specs.Hash.{ghash, block_at, filled, blocks_of}

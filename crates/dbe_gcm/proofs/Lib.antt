@@ -2,3 +2,4 @@ pub mod Xor
 pub mod Products
 pub mod Hashes
 pub mod Tags
+pub mod Nibbles

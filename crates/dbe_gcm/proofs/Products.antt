@@ -1,11 +1,11 @@
 -- The product of blocks is linear in both, commutes and associates.
-use Rattle.std.proofs.Common.{◌≡◌, ℕ, zero, suc, ◌+◌, ◌-◌, ◌*◌, ◌/◌, ◌%◌, ◌^◌, ◌<◌, ◌≤◌, ◌≢◌, ◌==◌, bit_xor, if◌then◌else◌, refl, sym, ap, ◌∙◌, arith}
+use Rattle.std.proofs.Common.{◌≡◌, ℕ, zero, suc, ◌+◌, ◌-◌, ◌*◌, ◌/◌, ◌%◌, ◌^◌, ◌<◌, ◌≤◌, ◌≢◌, bit_xor, refl, sym, ap, ◌∙◌, arith}
 use Rattle.std.specs.Int.{bit_at}
-use Rattle.std.specs.Int.Bits.{xor_assoc, xor_self, xor_zero_r, xor_zero_l, xor_shifted}
-use Rattle.std.proofs.lemmas.Nat.{xor_comm, xor_shr, xor_mod, xor_lt, mod-pow-add, mod_below, pow_pos, shr_below}
-use Rattle.std.proofs.Math.Nat.{pow-succ'}
-use Rattle.std.proofs.lemmas.Nat.Bits.{bit_at_lowest, bit_at-pow_same, bit_at-pow_other, bit_at-lt, bit_at-zero}
-use Rattle.dbe_gcm.specs.Blocks.{times_x, product_of_bits, product, power}
+use Rattle.std.specs.Int.Bits.{xor_assoc, xor_self, xor_zero_r, xor_shifted}
+use Rattle.std.proofs.lemmas.Nat.{xor_shr, xor_mod, xor_lt, mod-pow-add, mod_below, pow_pos, shr-shr, shr_split}
+use Rattle.std.proofs.Math.Nat.{pow-succ', add_comm}
+use Rattle.std.proofs.lemmas.Nat.Bits.{bit_at_lowest, bit_at_cat_low, bit_at-pow_same, bit_at-pow_other, bit_at-lt, bit_at-zero}
+use Rattle.dbe_gcm.specs.Blocks.{raised, times_x, product_of_bits, product, power}
 use Rattle.dbe_gcm.proofs.Xor.{xor_crossed, where_set, where_set-xor, xor_where_set, of_where_set, where_set_lt, sum_where_set}
 
 times_x_is : (v : ℕ) → times_x v ≡ bit_xor (v / 2) (where_set (v % 2) (0xe1 * 2 ^ 120))
@@ -64,7 +64,7 @@ bits-zero_left (suc n) v = rw (bit_at-zero n, bits-zero_left n (times_x v)) refl
 bits-zero_right : (n y : ℕ) → product_of_bits n y 0 ≡ 0
 bits-zero_right n y = let e = bits-xor_right n y 0 0 in e ∙ xor_self (product_of_bits n y 0)
 
-bits_none : (y v : ℕ) → product_of_bits 0 y v ≡ 0
+pub bits_none : (y v : ℕ) → product_of_bits 0 y v ≡ 0
 unfolding product_of_bits
 bits_none y v = refl
 
@@ -76,11 +76,6 @@ times_x-pow m =
     let even : 2 ^ suc m % 2 ≡ 0 = omega (arith, double) in
     let half : 2 ^ suc m / 2 ≡ 2 ^ m = omega (arith, double) in
     times_x_is (2 ^ suc m) ∙ rw (even, half) (xor_zero_r (2 ^ m))
-
--- v times x to the power k
-raised : ℕ → ℕ → ℕ
-raised zero v = v
-raised (suc k) v = raised k (times_x v)
 
 raised-bits : (k n y v : ℕ) → raised k (product_of_bits n y v) ≡ product_of_bits n y (raised k v)
 unfolding raised
@@ -240,3 +235,26 @@ sum_more sum y v n m k e d = rw (e, d, bits_more n y v) (sym (xor_assoc sum (whe
 pub sum_all : (sum y v u n : ℕ) → n ≡ 0 → bit_xor sum (product_of_bits n y v) ≡ product_of_bits 128 y u → sum ≡ product y u
 unfolding product
 sum_all sum y v u n e h = sym (xor_zero_r sum) ∙ ap (bit_xor sum) (sym (bits_none y v)) ∙ rw e at h
+
+-- ---- the product, some bits at a time
+
+pub raised-more : (j k v : ℕ) → raised (j + k) v ≡ raised k (raised j v)
+unfolding raised
+raised-more zero k v = let e : zero + k ≡ k = omega arith in rw e refl
+raised-more (suc j) k v = let e : suc j + k ≡ suc (j + k) = omega arith in rw e (raised-more j k (times_x v))
+
+pub bits-cut : (k m y v : ℕ) → product_of_bits (k + m) y v ≡ bit_xor (product_of_bits k (y / 2 ^ m) v) (product_of_bits m y (raised k v))
+unfolding raised
+bits-cut zero m y v = let e : zero + m ≡ m = omega arith in rw (e, bits_none (y / 2 ^ m) v) refl
+bits-cut (suc k) m y v =
+    let e : suc k + m ≡ suc (k + m) = omega arith in
+    let bit : bit_at y (k + m) ≡ bit_at (y / 2 ^ m) k = ap (λ (z : ℕ). z % 2) (ap (λ (j : ℕ). y / 2 ^ j) (add_comm k m) ∙ sym (shr-shr y m k)) in
+    rw (e, bits_more (k + m) y v, bits_more k (y / 2 ^ m) v, bits-cut k m y (times_x v), bit)
+    (sym (xor_assoc (where_set (bit_at (y / 2 ^ m) k) v) (product_of_bits k (y / 2 ^ m) (times_x v)) (product_of_bits m y (raised k (times_x v)))))
+
+-- only the low bits count
+pub bits_low : (k j y v : ℕ) → k ≤ j → product_of_bits k (y % 2 ^ j) v ≡ product_of_bits k y v
+bits_low zero j y v le = rw (bits_none (y % 2 ^ j) v, bits_none y v) refl
+bits_low (suc k) j y v le =
+    let bit : bit_at (y % 2 ^ j) k ≡ bit_at y k = sym (bit_at_cat_low (y / 2 ^ j) j (y % 2 ^ j) k (omega arith)) ∙ ap (λ (z : ℕ). bit_at z k) (shr_split y j) in
+    rw (bits_more k (y % 2 ^ j) v, bits_more k y v, bit, bits_low k j y (times_x v) (omega arith)) refl

@@ -9,6 +9,11 @@ use Rattle.std.specs.Int.{bit_at}
 unfoldable pub times_x : ℕ → ℕ
 times_x v = if v % 2 == 1 then bit_xor (v / 2) (0xe1 * 2 ^ 120) else v / 2
 
+-- v times x to the power k
+unfoldable pub raised : ℕ → ℕ → ℕ
+raised zero v = v
+raised (suc k) v = raised k (times_x v)
+
 -- the sum of v, v x, v x^2, …, over those of the bits n - 1, n - 2, …, 0 of y that are set
 unfoldable pub product_of_bits : ℕ → ℕ → ℕ → ℕ
 product_of_bits zero y v = 0

@@ -1,7 +1,7 @@
 -- GCM with an IV of 12 bytes and a tag of 16 (SP 800-38D, 7.1 and 7.2). Slices of every length have a
 -- meaning here. Past the standard's limits the counter goes on modulo 2 ^ 32, and a length in bits is
 -- taken modulo 2 ^ 64: both are this project's own.
-use Rattle.std.specs.Prelude.{ℕ, ◌+◌, List, [], ◌∷◌, ◌++◌, bit_xor, replicate}
+use Rattle.std.specs.Prelude.{ℕ, List, [], ◌∷◌, ◌++◌, bit_xor, replicate}
 use Rattle.std.specs.Int.{w128, from_be_bytes, to_be_bytes}
 use Rattle.dbe_aes.specs.Cipher.{cipher}
 use Rattle.dbe_aes.specs.Counters.{counter_mode}

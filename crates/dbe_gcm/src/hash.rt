@@ -1,12 +1,14 @@
-//! GHASH, block after block.
+//! GHASH, block after block, by the table of the hash key.
 
 ghost use Rattle.std.specs.Prelude.{◌≡◌, ◌+◌, ◌*◌, ◌%◌, ◌^◌, ◌<◌, ◌≤◌, ℕ, List, [], ◌∷◌, ◌++◌, length};
 ghost use Rattle.dbe_gcm.specs.Hash.{block_at, blocks_of, filled, ghash, lengths_block};
+ghost use Rattle.dbe_gcm.specs.Tables.{IsTable};
 ghost use Rattle.dbe_gcm.specs.Gcm.{hash_of};
 
-use crate::product::product;
+use crate::table::{fill_table, times};
 
 // The block of the 16 bytes from `at` on.
+#[inline(always)]
 fn block_at(bytes: &[u8], at: usize) -> u128
     requires { at + 16 ≤ length bytes.now }
     ensures { result ≡ block_at bytes.now at }
@@ -46,25 +48,26 @@ fn last_block(bytes: &[u8], at: usize) -> u128
 }
 
 // One block more.
-fn absorb_block(h: u128, sum: u128, block: u128) -> u128
-    ensures { (xs : List ℕ) → sum ≡ ghash h xs → result ≡ ghash h (xs ++ block ∷ []) }
+#[inline(always)]
+fn absorb_block(table: &[u128; 512], sum: u128, block: u128) -> u128
+    ensures { (h : ℕ) (xs : List ℕ) → IsTable h table.now → sum ≡ ghash h xs → result ≡ ghash h (xs ++ block ∷ []) }
 {
-    product(sum ^ block, h)
+    times(table, sum ^ block)
 }
 
 // The blocks of some bytes more, filled with zeros to whole blocks.
-fn absorb(h: u128, sum: u128, bytes: &[u8]) -> u128
-    ensures { (xs : List ℕ) → sum ≡ ghash h xs → result ≡ ghash h (xs ++ blocks_of bytes.now) }
+fn absorb(table: &[u128; 512], sum: u128, bytes: &[u8]) -> u128
+    ensures { (h : ℕ) (xs : List ℕ) → IsTable h table.now → sum ≡ ghash h xs → result ≡ ghash h (xs ++ blocks_of bytes.now) }
 {
     let blocks = bytes.len() / 16;
     let mut sum = sum;
     for j in 0..blocks {
-        sum = absorb_block(h, sum, block_at(bytes, 16 * j));
+        sum = absorb_block(table, sum, block_at(bytes, 16 * j));
     }
     if bytes.len() % 16 == 0 {
         sum
     } else {
-        absorb_block(h, sum, last_block(bytes, 16 * blocks))
+        absorb_block(table, sum, last_block(bytes, 16 * blocks))
     }
 }
 
@@ -81,6 +84,8 @@ fn lengths_block(aad: &[u8], text: &[u8]) -> u128
 pub fn hash(h: u128, aad: &[u8], text: &[u8]) -> u128
     ensures { result ≡ hash_of h aad.now text.now }
 {
-    let sum = absorb(h, absorb(h, 0, aad), text);
-    absorb_block(h, sum, lengths_block(aad, text))
+    let mut table = [0u128; 512];
+    fill_table(&mut table, h);
+    let sum = absorb(&table, absorb(&table, 0, aad), text);
+    absorb_block(&table, sum, lengths_block(aad, text))
 }

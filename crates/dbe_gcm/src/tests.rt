@@ -1,3 +1,5 @@
+use crate::product::product;
+use crate::table::{fill_table, times};
 use crate::{open_in_place, seal_in_place};
 use dbe_aes::Key256;
 use std::process::Abort;
@@ -266,4 +268,25 @@ fn every_length(rt: HostRuntime) {
             assert_eq!(rt; bytes[i], i as u8, "byte {i} of {len}");
         }
     }
+}
+
+// The product bit by bit and the one by the table are the same.
+#[test]
+fn same_products(rt: HostRuntime) {
+    let mut y = 0x0388_dace_60b6_a392_f328_c2b9_71b2_fe78_u128;
+    let mut h = 0x66e9_4bd4_ef8a_2c3b_884c_fa59_ca34_2b2e_u128;
+    for _ in 0..20 {
+        let expected = product(y, h);
+        let mut table = [0u128; 512];
+        fill_table(&mut table, h);
+        assert_eq!(rt; times(&table, y), expected);
+        y = h ^ (y >> 3);
+        h = expected;
+    }
+    // The product of the published test case 2 of McGrew and Viega.
+    let first = product(
+        0x0388_dace_60b6_a392_f328_c2b9_71b2_fe78,
+        0x66e9_4bd4_ef8a_2c3b_884c_fa59_ca34_2b2e,
+    );
+    assert_eq!(rt; first, 0x5e2e_c746_9170_6288_2c85_b068_5353_deb7);
 }

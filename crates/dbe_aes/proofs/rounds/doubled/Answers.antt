@@ -1,5 +1,5 @@
 use Rattle.std.proofs.Common.{◌∙◌}
-use Rattle.dbe_aes.proofs.Tables.{double_is_product}
+use Rattle.dbe_aes.proofs.Entries.{double_is_product}
 use Rattle.dbe_aes.proofs.rounds.doubled.Goals as goal
 
 pub returns : goal.returns

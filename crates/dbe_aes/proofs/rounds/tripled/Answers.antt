@@ -1,4 +1,4 @@
-use Rattle.dbe_aes.proofs.Tables.{triple_is_product}
+use Rattle.dbe_aes.proofs.Entries.{triple_is_product}
 use Rattle.dbe_aes.proofs.rounds.tripled.Goals as goal
 
 pub returns : goal.returns

@@ -1,4 +1,4 @@
-use Rattle.std.proofs.Common.{◌≡◌, ◌-◌, ◌+◌, suc, refl, arith, rules, length, sym, ◌∙◌, add-one, take_all}
+use Rattle.std.proofs.Common.{◌≡◌, ◌-◌, ◌+◌, suc, refl, arith, rules, sym, ◌∙◌, take_all}
 use Rattle.std.proofs.lemmas.List.{length-set}
 use Rattle.dbe_aes.specs.Words.{key_schedule}
 use Rattle.dbe_aes.proofs.Expansion.{words_none, words_more}

@@ -1,4 +1,4 @@
-use Rattle.dbe_aes.proofs.Tables.{substitution_entry}
+use Rattle.dbe_aes.proofs.Entries.{substitution_entry}
 use Rattle.dbe_aes.proofs.substitution.substitute.Goals as goal
 
 pub returns : goal.returns

@@ -7,7 +7,9 @@ use Rattle.dbe_gcm.proofs.hash.hash.Goals as goal
 pub returns : goal.returns
 unfolding hash_of
 returns c =
-    let first = c.absorb.ensures [] (sym (ghash-nil c.args.h)) in
-    let second = c.absorb-sum.ensures (blocks_of c.args.aad.now) first in
-    let third = c.absorb_block.ensures (blocks_of c.args.aad.now ++ blocks_of c.args.text.now) second in
+    let h = c.args.h in
+    let table = c.fill_table.ensures in
+    let first = c.absorb.ensures h [] table (sym (ghash-nil c.args.h)) in
+    let second = c.absorb-sum.ensures h (blocks_of c.args.aad.now) table first in
+    let third = c.absorb_block.ensures h (blocks_of c.args.aad.now ++ blocks_of c.args.text.now) table second in
     third ∙ rw c.lengths_block.ensures refl

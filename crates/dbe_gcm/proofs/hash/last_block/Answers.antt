@@ -1,4 +1,4 @@
-use Rattle.std.proofs.Common.{arith, rules, ◌∙◌, length, ◌-◌, ◌≡◌}
+use Rattle.std.proofs.Common.{arith, ◌∙◌}
 use Rattle.dbe_gcm.proofs.Hashes.{block_at-last}
 use Rattle.dbe_gcm.proofs.hash.last_block.Goals as goal
 

@@ -1,4 +1,4 @@
-use Rattle.std.proofs.Common.{◌≡◌, ◌+◌, ◌*◌, ◌%◌, ◌^◌, ◌<◌, ℕ, bit_or, length, arith, refl, ◌∙◌}
+use Rattle.std.proofs.Common.{◌≡◌, ◌*◌, ◌%◌, ◌^◌, length, arith}
 use Rattle.std.proofs.lemmas.Nat.{or_shifted}
 use Rattle.dbe_gcm.specs.Hash.{lengths_block}
 use Rattle.dbe_gcm.proofs.hash.lengths_block.Goals as goal

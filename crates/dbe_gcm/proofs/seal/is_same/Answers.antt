@@ -1,4 +1,4 @@
-use Rattle.std.proofs.Common.{◌≡◌, ℕ, arith, get_or, eq-eqb, eqb-true, ap}
+use Rattle.std.proofs.Common.{arith, get_or, eq-eqb, eqb-true, ap}
 use Rattle.dbe_gcm.proofs.Tags.{tells_none, tells_more, same_list}
 use Rattle.dbe_gcm.proofs.seal.is_same.Goals as goal
 

@@ -1,6 +1,5 @@
-use Rattle.std.proofs.Common.{◌≡◌, ℕ, ◌<◌, get_or, refl, sym, ap, ◌∙◌, ◌++◌, [], ◌∷◌, List}
+use Rattle.std.proofs.Common.{ℕ, get_or, refl, sym, ap, ◌++◌, [], ◌∷◌, List}
 use Rattle.std.proofs.lemmas.List.FromFn.{fill_by_all}
-use Rattle.dbe_gcm.specs.Gcm.{numbered}
 use Rattle.dbe_gcm.proofs.seal.numbered.Goals as goal
 
 pub returns : goal.returns

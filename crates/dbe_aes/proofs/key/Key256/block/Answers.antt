@@ -1,7 +1,7 @@
-use Rattle.std.proofs.Common.{◌∙◌, ap, refl}
-use Rattle.dbe_aes.specs.Cipher.{cipher, cipher_by_words}
+use Rattle.std.proofs.Common.{refl, ◌∙◌}
+use Rattle.dbe_aes.specs.Columns.{columns}
 use Rattle.dbe_aes.proofs.key.Key256.block.Goals as goal
 
 pub returns : goal.returns
-unfolding cipher
-returns c = rw (← c.self.view_is, ← c.self.invariant) c.cipher_by_words.ensures
+unfolding columns
+returns c = c.enciphered.ensures ∙ rw c.columns_of.ensures refl

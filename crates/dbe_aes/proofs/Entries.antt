@@ -4,7 +4,7 @@ use Rattle.std.proofs.lemmas.Bool.{eqb-true}
 use Rattle.dbe_aes.specs.Bytes.{product_of_bits, product, times_x, inverse_from, inverse, affine, substituted}
 use Rattle.dbe_aes.specs.declared.substitution.TheConstants.{SUBSTITUTION}
 
-both : (a b : Bool) → (a && b) ≡ true → (a ≡ true) × (b ≡ true)
+pub both : (a b : Bool) → (a && b) ≡ true → (a ≡ true) × (b ≡ true)
 both true b h = (refl, h)
 both false b h = cc
 
