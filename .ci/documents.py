@@ -1,7 +1,6 @@
 """Checks that each file that a document names is there, and that docs/DEFINITIONS.md names each definition's file."""
 import os
 import re
-import subprocess
 import sys
 
 LINK = re.compile(r"\]\(([^)#]+)(?:#[^)]*)?\)")
@@ -9,8 +8,9 @@ PATH = re.compile(r"`((?:crates|docs|examples|bench|\.ci)/[^`\s]+)`")
 
 
 def documents():
-    listed = subprocess.run(["git", "ls-files", "--cached", "--others", "--exclude-standard", "*.md"], capture_output=True, text=True, check=True)
-    return [name for name in listed.stdout.splitlines() if os.path.exists(name)]
+    for folder, folders, names in os.walk("."):
+        folders[:] = sorted(f for f in folders if f not in (".git", "out"))
+        yield from (os.path.normpath(os.path.join(folder, name)) for name in sorted(names) if name.endswith(".md"))
 
 
 # The files that a document names, as paths from the top of the repository.
@@ -42,5 +42,5 @@ wrong = ["%s names %s, which is missing" % (d, p) for d in documents() for p in 
 wrong += ["docs/DEFINITIONS.md leaves out %s" % path for path in not_listed()]
 for line in wrong:
     print(line, file=sys.stderr)
-print(".ci/run: %d documents checked, %d faults" % (len(documents()), len(wrong)))
+print(".ci/run: %d documents checked, %d faults" % (len(list(documents())), len(wrong)))
 sys.exit(1 if wrong else 0)
