@@ -1,5 +1,5 @@
 -- The entries of a map from texts to actions.
-use Rattle.std.proofs.Common.{◌≡◌, ℕ, Bool, true, false, List, [], ◌∷◌, Some, None, refl, ap, sym, ◌∙◌, String, string_bytes, string_cmp, Global, BTreeMap, Ordering, Less, Equal, Greater, bytes_eq, cond, is_some, nat_cmp, is_eq, length, ◌==◌, ◌||◌, true≢false, Option, Bor, arith}
+use Rattle.std.proofs.Common.{◌≡◌, ℕ, Bool, true, false, List, [], ◌∷◌, Some, None, refl, ap, sym, ◌∙◌, String, string_bytes, string_cmp, Global, Ordering, Less, Equal, Greater, cond, is_some, nat_cmp, length, ◌==◌, ◌||◌, true≢false, Option, Bor, arith}
 use Rattle.std.proofs.lemmas.Bool.Decides.{nat_tests}
 use Rattle.std.specs.Option.{option_copied}
 use Rattle.std.specs.Cmp.Lexicographic.{slice_cmp}

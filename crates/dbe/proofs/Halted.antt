@@ -1,15 +1,13 @@
 -- Where the reader of a script gave up.
-use Rattle.std.proofs.Common.{◌≡◌, ◌⊎◌, ℕ, ◌+◌, ◌-◌, ◌<◌, ◌≤◌, ◌==◌, true, false, Bool, List, [], ◌∷◌, ◌++◌, length, Some, None, inl, inr, refl, sym, ap, ◌∙◌, subst, arith, append_assoc, append-nil, length-append, if◌then◌else◌}
+use Rattle.std.proofs.Common.{◌≡◌, ℕ, ◌+◌, ◌-◌, ◌<◌, ◌≤◌, ◌==◌, true, false, Bool, List, [], ◌∷◌, ◌++◌, length, Some, None, inl, inr, refl, sym, ap, ◌∙◌, subst, arith, append_assoc, append-nil, length-append, if◌then◌else◌}
 use Rattle.std.specs.declared.option.Option.{Option}
-use Rattle.std.specs.List.{All}
 use Rattle.dbe_io.specs.declared.lines.LineFault.{LineFault}
 use Rattle.dbe_io.specs.declared.lines.LineFault.TheVariants as f
-use Rattle.dbe_io.specs.Lines.{onto, lines_of, ended_lines, first_piece, HasNone, IsTooLong, IsTooMuch, IsWhole}
-use Rattle.dbe_io.specs.Reading.{Reading, GaveUp, StaysUp, Stops, IsCause, most_of}
+use Rattle.dbe_io.specs.Lines.{onto, lines_of, ended_lines, first_piece, HasNone, IsTooLong, IsTooMuch}
+use Rattle.dbe_io.specs.Reading.{Reading, GaveUp, Stops, most_of}
 use Rattle.dbe_io.proofs.LineLaws.{ended_lines-open, IsTooLong-more, IsTooMuch-more}
-use Rattle.dbe.specs.declared.status.Status.TheVariants as s
-use Rattle.dbe.specs.Stops.{AreEndedIn, StopsFor, HasLongLine}
-use Rattle.dbe.proofs.ReadSoFar.{AreDone, ReadSoFar, Pulled, pulled_from}
+use Rattle.dbe.specs.Stops.{AreEndedIn, HasLongLine}
+use Rattle.dbe.proofs.ReadSoFar.{AreDone, ReadSoFar, pulled_from}
 
 -- a reader that had answered no fault gives up for the first time
 pub gave_up : (old new : Reading) (left left' : Option (List ℕ)) (fault : LineFault) → old.fault ≡ None → Stops old new left left' fault → GaveUp old new left left' fault
@@ -89,7 +87,7 @@ read_ended lines front rest held left (inr (empty, d)) is none =
 pub read_stops : (limit total : ℕ) (bytes : List ℕ) (old new : Reading) (left left' : Option (List ℕ)) (lines : List (List ℕ))
     → (p : ReadSoFar limit total bytes old left lines) → (g : GaveUp old new left left' f.Read)
     → let h = halted limit total bytes old new left left' lines f.Read p g in
-      (taken : List ℕ) × (p.front ++ (old.held ++ p.to_come) ≡ taken ++ h.left) × AreEndedIn lines taken h.left
+    (taken : List ℕ) × (p.front ++ (old.held ++ p.to_come) ≡ taken ++ h.left) × AreEndedIn lines taken h.left
 read_stops limit total bytes old new left left' lines p g =
     let h = halted limit total bytes old new left left' lines f.Read p g in (
       p.front ++ new.held,

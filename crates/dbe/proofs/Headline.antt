@@ -3,13 +3,12 @@ use Rattle.std.proofs.Common.{◌≡◌, ◌⊎◌, ℕ, ◌&&◌, ◌==◌, cod
 use Rattle.std.specs.declared.option.Option.{Option}
 use Rattle.std.specs.Cmp.Lexicographic.{slice_cmp}
 use Rattle.std.specs.Io.KnownBytes.{Appends}
-use Rattle.std.specs.List.{All, AllByRecursion, flat_map, list_all}
+use Rattle.std.specs.List.{All, AllByRecursion, flat_map}
 use Rattle.std.specs.List.Sorted.{IsStrictlySortedBy}
 use Rattle.std.specs.Ordering.{match_ordering, ordering_reverse, is_lt}
 use Rattle.std.proofs.lemmas.Cmp.{nat_list_cmp_total}
 use Rattle.std.proofs.lemmas.List.Elements.{All-nil, All-cons}
 use Rattle.std.proofs.lemmas.Slice.Eq.{bytes_eq-Decides}
-use Rattle.dbe_values.specs.declared.value.AttrValue.{AttrValue}
 use Rattle.dbe_values.specs.declared.key.KeySchema.{KeySchema}
 use Rattle.serde_json.specs.Data.{Data}
 use Rattle.dbe_values.specs.Json.{json_of, size_of}
@@ -26,10 +25,10 @@ use Rattle.dbe_cond.specs.declared.wanted.Wanted.TheVariants.{Only}
 use Rattle.dbe_cond.specs.Meaning.{holds}
 use Rattle.dbe.specs.Setting.{Setting}
 use Rattle.dbe.specs.Rows.{Row, IsTable, put_row, wanted_rows}
-use Rattle.dbe.specs.Requests.{is_acceptable, has_action, attribute_size, request_of, request_in, put_or_other, put_in, query_in}
+use Rattle.dbe.specs.Requests.{is_acceptable, request_of, request_in, put_or_other, put_in, query_in}
 use Rattle.dbe.specs.Texts.{put_text, select_text}
 use Rattle.dbe.specs.Maps.{Items, put_item, with_request, after_line, After, select_of, IsAnswer, AreRows, Stands}
-use Rattle.dbe.specs.Run.{State, Turn, Reply, query_text, reply_by, reply_in, reply_to, run, lines_in, replies_in, World, Ran, Headline, AreAnswers}
+use Rattle.dbe.specs.Run.{State, Turn, query_text, reply_by, reply_in, reply_to, run, lines_in, replies_in, World, Ran, Headline, AreAnswers}
 use Rattle.dbe.specs.Stops.{AreRowsBefore, Stopped, Kept, StandsBefore}
 use Rattle.dbe.specs.declared.request.Request.{Request}
 use Rattle.dbe.specs.declared.request.Request.TheVariants as r
@@ -222,14 +221,14 @@ filter_twice p [] = refl
 filter_twice p (x ∷ xs) = filter_if p x (filter p xs) (p x) refl (filter_twice p xs)
 
 -- a query's reply is that of the map
-query_is : (c : Setting) (s : State) (m : Items) (cond : Cond) → Stands c s.rows m → (scanned : ℕ) × (query_text cond (wanted_rows (Only cond) s.rows) ≡ select_text (select_of cond m) scanned)
+query_is : (c : Setting) (s : State) (m : Items) (cond : Cond) → Stands c s.rows m → query_text cond (wanted_rows (Only cond) s.rows) ≡ select_text (select_of cond m) (length (select_of cond m))
 query_is c s m cond st =
     let found : Items = wanted_rows (Only cond) s.rows in
     let same : found ≡ select_of cond m = ap (filter (holds cond)) (rows_are s.rows m st.are_rows) in
-    (length found, ap (λ items. select_text items (length found)) (filter_twice (holds cond) s.rows ∙ same))
+    ap (λ items. select_text items (length found)) (filter_twice (holds cond) s.rows ∙ same) ∙ ap (λ items. select_text (select_of cond m) (length items)) same
 
-answer_by : (c : Setting) (s : State) (m : Items) (request : Request) (cond : Cond) → Stands c s.rows m → request ≡ r.Query cond → (scanned : ℕ) × ((reply_by c s request).text ≡ select_text (select_of cond m) scanned)
-answer_by c s m request cond st is = let q = query_is c s m cond st in (q.0, ap (λ request. (reply_by c s request).text) is ∙ q.1)
+answer_by : (c : Setting) (s : State) (m : Items) (request : Request) (cond : Cond) → Stands c s.rows m → request ≡ r.Query cond → (reply_by c s request).text ≡ select_text (select_of cond m) (length (select_of cond m))
+answer_by c s m request cond st is = ap (λ request. (reply_by c s request).text) is ∙ query_is c s m cond st
 
 -- an empty line asks nothing
 nothing_read : read [] ≡ None
@@ -261,20 +260,20 @@ answers c s m turns st first turn others is = answer_of c (run c s first).state 
 -- what was written for a script answers each query from the map
 pub headline : (before after : World) → Ran before after → Headline before after
 headline before after (c, uses, ran) = (
-      c,
-      uses,
-      λ bytes start m script told st.
-          let r = ran bytes start script told in (
-            r.0,
-            r.1,
-            record {
-              replied = r.2;
-              written = subst (Appends before.written after.written) (text_joined c start r.0) r.2.written;
-              answers = answers c start m r.0 st;
-              stands = stands_after c start m r.0 st;
-            },
-          ),
-    )
+  c,
+  uses,
+  λ bytes start m script told st.
+      let r = ran bytes start script told in (
+        r.0,
+        r.1,
+        record {
+          replied = r.2;
+          written = subst (Appends before.written after.written) (text_joined c start r.0) r.2.written;
+          answers = answers c start m r.0 st;
+          stands = stands_after c start m r.0 st;
+        },
+      ),
+)
 
 -- the rows after one line more stand for the map after it, or for the map before
 next_by : (c : Setting) (s : State) (m : Items) (request : Request) → IsFit c request → Stands c s.rows m
@@ -294,18 +293,25 @@ stands_before c s m (line ∷ lines) rows st (inl same) = (s.rows, same, inl st)
 stands_before c s m (line ∷ lines) rows st (inr more) = (_, more, stands_next c s m line st)
 
 -- where the run stopped, the map is kept
-pub kept : (status : Status) (before after : World) → Stopped status before after → Kept before after
+pub kept : (status : Status) (before after : World) → Stopped status before after → Kept status before after
 kept status before after (c, uses, stopped) = (
-      c,
-      uses,
-      λ bytes start m script told st.
-          let r = stopped bytes start script told in (
-            r.0,
-            record {
-              rest = lines_of r.1.rest;
-              lines = r.1.lines;
-              answers = answers c start m r.0 st;
-              stands = stands_before c (run c start r.0).state _ (lines_of r.1.rest) after.rows (stands_after c start m r.0 st) r.1.state;
-            },
-          ),
-    )
+  c,
+  uses,
+  λ bytes start m script told st.
+      let r = stopped bytes start script told in (
+        r.0,
+        record {
+          stopped = r.1;
+          written = let P : List ℕ → Type 0 = λ text. Appends before.written after.written (text ++ r.1.piece) in subst P (text_joined c start r.0) r.1.written;
+          answers = answers c start m r.0 st;
+          stands = stands_before c (run c start r.0).state _ (lines_of r.1.rest) after.rows (stands_after c start m r.0 st) r.1.state;
+        },
+      ),
+)
+
+pub map_stands : (c : Setting) (m : Items) → IsTable c.schema m → All (λ item. is_acceptable c item ≡ true) m → Stands c m m
+map_stands c m table fits = record { is_map = table; acceptable = fits; are_rows = are_rows_refl m }
+
+pub nothing_stands : (c : Setting) → Stands c [] []
+unfolding IsStrictlySortedBy
+nothing_stands c = map_stands c [] (record { keys = All-nil (λ row. has_key c.schema row ≡ true); order = tt }) (All-nil (λ item. is_acceptable c item ≡ true))

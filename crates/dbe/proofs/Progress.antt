@@ -1,25 +1,24 @@
 -- A run that has come some lines far.
-use Rattle.std.proofs.Common.{◌≡◌, ◌≢◌, ◌⊎◌, ℕ, ◌≤◌, true, List, [], ◌∷◌, ◌++◌, length, take, drop, Vec, Some, None, inl, inr, refl, sym, ap, ◌∙◌, subst, append_assoc, append-nil}
+use Rattle.std.proofs.Common.{◌≡◌, ◌⊎◌, ℕ, true, List, [], ◌∷◌, ◌++◌, take, drop, Vec, Some, None, inl, inr, refl, sym, ap, ◌∙◌, subst, append_assoc, append-nil}
 use Rattle.std.specs.declared.alloc.Global.{Global}
 use Rattle.std.specs.declared.option.Option.{Option}
 use Rattle.std.specs.Io.KnownBytes.{Appends, IsAtEnd}
 use Rattle.std.proofs.KnownBytes.{Appends-nil, Appends-trans}
 use Rattle.std.proofs.lemmas.List.{take-append-drop}
 use Rattle.dbe_values.specs.declared.value.AttrValue.{AttrValue}
-use Rattle.dbe_io.specs.declared.lines.LineFault.{LineFault}
 use Rattle.dbe_io.specs.declared.lines.LineFault.TheVariants as f
 use Rattle.dbe_io.specs.Lines.{lines_of}
 use Rattle.dbe_io.specs.Prefix.{AppendsPrefix}
-use Rattle.dbe_io.specs.Reading.{Reading, Given, GaveUp, Stops}
+use Rattle.dbe_io.specs.Reading.{Reading, Given, Stops}
 use Rattle.dbe.specs.Setting.{Setting}
-use Rattle.dbe.specs.Run.{State, Turn, Reply, reply_in, reply_to, run, lines_in, World, Replied}
-use Rattle.dbe.specs.Steps.{Answered, AreRowsAt}
+use Rattle.dbe.specs.Run.{State, Turn, reply_in, reply_to, run, lines_in, World, Replied}
+use Rattle.dbe.specs.Steps.{Answered}
 use Rattle.dbe.specs.Turns.{Turned, TurnedDown, IsOfReply}
 use Rattle.dbe.specs.Stops.{AreRowsBefore, IsPieceOf, StopsFor, StoppedAt}
 use Rattle.dbe.specs.declared.status.Status.{Status}
 use Rattle.dbe.specs.declared.status.Status.TheVariants as s
-use Rattle.dbe.proofs.ReadSoFar.{ReadSoFar, ReadSoFar-more, ReadSoFar-none, NextLine, pulled_from}
-use Rattle.dbe.proofs.Halted.{gave_up, halted, Halted, too_long, too_much, ended_before_long, ended_before_much, read_stops}
+use Rattle.dbe.proofs.ReadSoFar.{ReadSoFar, ReadSoFar-more, ReadSoFar-none, pulled_from}
+use Rattle.dbe.proofs.Halted.{gave_up, halted, too_long, too_much, ended_before_long, ended_before_much, read_stops}
 
 abbrev pub Rows : Type 0
 Rows = Option (List (List (List ℕ × AttrValue)))
@@ -70,14 +69,14 @@ pub Progress-done : (c : Setting) (bytes : List ℕ) (start : State) (old_reader
     → before.written ≡ old → after.rows ≡ rows → after.written ≡ new
     → (turns : List Turn) × (lines_in turns ≡ lines_of bytes) × Replied c before after start turns
 Progress-done c bytes start old_reader new_reader left left' rows old new before after p given was is_old is_rows is_new = (
-      p.turns,
-      ReadSoFar-none 1048576 1073741824 bytes old_reader new_reader left left' (lines_in p.turns) p.so_far given was,
-      record { rows = is_rows ∙ p.state; written = rw (is_old, is_new) p.written },
-    )
+  p.turns,
+  ReadSoFar-none 1048576 1073741824 bytes old_reader new_reader left left' (lines_in p.turns) p.so_far given was,
+  record { rows = is_rows ∙ p.state; written = rw (is_old, is_new) p.written },
+)
 
-same_rows : (c : Setting) (s : State) (lines : List (List ℕ)) (rows : Rows) → rows ≡ Some s.rows → AreRowsBefore c s lines rows
-same_rows c s [] rows same = same
-same_rows c s (line ∷ lines) rows same = inl same
+rows_stay : (c : Setting) (s : State) (lines : List (List ℕ)) (rows : Rows) → rows ≡ Some s.rows → AreRowsBefore c s lines rows
+rows_stay c s [] rows same = same
+rows_stay c s (line ∷ lines) rows same = inl same
 
 no_piece : (c : Setting) (s : State) (lines : List (List ℕ)) → IsPieceOf c s lines []
 no_piece c s [] = refl
@@ -96,21 +95,28 @@ stopped_between c status bytes start reader left0 rows old new before after left
   is_left = told;
   lines = p.so_far.lines_are;
   stops = stops;
-  state = same_rows c _ (lines_of (reader.held ++ p.so_far.to_come)) _ (is_rows ∙ p.state);
+  state = rows_stay c _ (lines_of (reader.held ++ p.so_far.to_come)) _ (is_rows ∙ p.state);
+  same_rows = λ _. is_rows ∙ p.state;
   piece = [];
   is_piece = no_piece c _ (lines_of (reader.held ++ p.so_far.to_come));
   only_write = λ ne. refl;
   written = subst (Appends before.written after.written) (sym (append-nil (run c start p.turns).text)) (rw (is_old, is_new) p.written);
 }
 
+-- the reader's statuses are none of a reply
+not_of_reply : (status : Status) → (status ≡ s.Read) ⊎ ((status ≡ s.LineTooLong) ⊎ (status ≡ s.ScriptTooLong)) → IsOfReply status → ⊥
+not_of_reply status (inl is) of = let P : Status → Type 0 = IsOfReply in subst P is of
+not_of_reply status (inr (inl is)) of = let P : Status → Type 0 = IsOfReply in subst P is of
+not_of_reply status (inr (inr is)) of = let P : Status → Type 0 = IsOfReply in subst P is of
+
 -- where it stops within a line, that line is the next one
 pub stopped_within : (c : Setting) (status : Status) (bytes : List ℕ) (start : State) (old_reader new_reader : Reading) (left left' : Option (List ℕ)) (rows : Rows) (old new : Option (List ℕ)) (before after : World) (v : Vec ℕ Global)
     → (p : Progress c bytes start old_reader left rows old new) → Given old_reader new_reader left left' (Some v) → (old_reader.ended ≡ true → IsAtEnd left)
     → before.written ≡ old → after.script ≡ left'
-    → TurnedDown c status (run c start p.turns).state v.items after.rows new after.written
+    → IsOfReply status → TurnedDown c status (run c start p.turns).state v.items after.rows new after.written
     → ((lines : List (List ℕ)) (front rest left : List ℕ) → StopsFor status lines front rest left)
     → StoppedAt c status before after start bytes p.turns
-stopped_within c status bytes start old_reader new_reader left left' rows old new before after v p given was is_old is_script down free =
+stopped_within c status bytes start old_reader new_reader left left' rows old new before after v p given was is_old is_script of down free =
     let next = ReadSoFar-more 1048576 1073741824 bytes old_reader new_reader left left' (lines_in p.turns) v p.so_far given was in
     let rest = old_reader.held ++ p.so_far.to_come in
     let P : List (List ℕ) → Type 0 = λ ls. AreRowsBefore c (run c start p.turns).state ls after.rows in
@@ -124,6 +130,7 @@ stopped_within c status bytes start old_reader new_reader left left' rows old ne
       lines = p.so_far.lines_are;
       stops = free (lines_in p.turns) p.so_far.front rest next.so_far.to_come;
       state = subst P (sym next.first) down.are_rows;
+      same_rows = λ other. absurd (not_of_reply status other of);
       piece = down.piece;
       is_piece = subst Q (sym next.first) (down.more, down.is_piece);
       only_write = down.only_write;
@@ -146,9 +153,9 @@ free_of : (status : Status) → IsOfReply status → (lines : List (List ℕ)) (
 free_of s.Table is lines front rest left = tt
 free_of s.Write is lines front rest left = tt
 free_of s.Memory is lines front rest left = tt
-free_of s.Done is lines front rest left = tt
-free_of s.Words is lines front rest left = tt
-free_of (s.Config fault) is lines front rest left = tt
+free_of s.Done is lines front rest left = absurd is
+free_of s.Words is lines front rest left = absurd is
+free_of (s.Config fault) is lines front rest left = absurd is
 free_of s.Read is lines front rest left = absurd is
 free_of s.LineTooLong is lines front rest left = absurd is
 free_of s.ScriptTooLong is lines front rest left = absurd is
@@ -158,7 +165,7 @@ pub stopped_in_reply : (c : Setting) (status : Status) (bytes : List ℕ) (start
     → before.written ≡ old → after.script ≡ left' → ((s : State) → rows ≡ Some s.rows → TurnedDown c status s v.items after.rows new after.written)
     → (turns : List Turn) × StoppedAt c status before after start bytes turns
 stopped_in_reply c status bytes start old_reader new_reader left left' rows old new before after v of p given was is_old is_script down =
-    (p.turns, stopped_within c status bytes start old_reader new_reader left left' rows old new before after v p given was is_old is_script (down (run c start p.turns).state p.state) (free_of status of))
+    (p.turns, stopped_within c status bytes start old_reader new_reader left left' rows old new before after v p given was is_old is_script of (down (run c start p.turns).state p.state) (free_of status of))
 
 -- where the reader gave up
 module _ (c : Setting) (bytes : List ℕ) (start : State) (old_reader new_reader : Reading) (left left' : Option (List ℕ)) (rows : Rows) (old new : Option (List ℕ)) (before after : World) (p : Progress c bytes start old_reader left rows old new) (none : old_reader.fault ≡ None) (is_old : before.written ≡ old) (is_rows : after.rows ≡ rows) (is_new : after.written ≡ new) (is_script : after.script ≡ left') where
@@ -177,21 +184,19 @@ module _ (c : Setting) (bytes : List ℕ) (start : State) (old_reader new_reader
   pub stopped_long : Stops old_reader new_reader left left' f.LineTooLong → (turns : List Turn) × StoppedAt c s.LineTooLong before after start bytes turns
   stopped_long stops =
       let g = gave_up old_reader new_reader left left' f.LineTooLong none stops in
-      let h = halted 1048576 1073741824 bytes old_reader new_reader left left' (lines_in p.turns) f.LineTooLong p.so_far g in
-      (
+      let h = halted 1048576 1073741824 bytes old_reader new_reader left left' (lines_in p.turns) f.LineTooLong p.so_far g in (
         p.turns,
         stopped_between c s.LineTooLong bytes start old_reader left rows old new before after h.left p is_old is_rows is_new (is_script ∙ h.is_left)
-        (ended_before_long 1048576 1073741824 bytes old_reader new_reader left left' (lines_in p.turns) p.so_far g, p.so_far.short, p.so_far.within, too_long 1048576 1073741824 bytes old_reader new_reader left left' (lines_in p.turns) p.so_far g),
+            (ended_before_long 1048576 1073741824 bytes old_reader new_reader left left' (lines_in p.turns) p.so_far g, p.so_far.short, p.so_far.within, too_long 1048576 1073741824 bytes old_reader new_reader left left' (lines_in p.turns) p.so_far g),
       )
 
   pub stopped_much : Stops old_reader new_reader left left' f.TooMuch → (turns : List Turn) × StoppedAt c s.ScriptTooLong before after start bytes turns
   stopped_much stops =
       let g = gave_up old_reader new_reader left left' f.TooMuch none stops in
-      let h = halted 1048576 1073741824 bytes old_reader new_reader left left' (lines_in p.turns) f.TooMuch p.so_far g in
-      (
+      let h = halted 1048576 1073741824 bytes old_reader new_reader left left' (lines_in p.turns) f.TooMuch p.so_far g in (
         p.turns,
         stopped_between c s.ScriptTooLong bytes start old_reader left rows old new before after h.left p is_old is_rows is_new (is_script ∙ h.is_left)
-        (ended_before_much 1048576 1073741824 bytes old_reader new_reader left left' (lines_in p.turns) p.so_far g, p.so_far.short, p.so_far.within, too_much 1048576 1073741824 bytes old_reader new_reader left left' (lines_in p.turns) p.so_far g),
+            (ended_before_much 1048576 1073741824 bytes old_reader new_reader left left' (lines_in p.turns) p.so_far g, p.so_far.short, p.so_far.within, too_much 1048576 1073741824 bytes old_reader new_reader left left' (lines_in p.turns) p.so_far g),
       )
 
   -- where the sink did not finish
@@ -205,19 +210,20 @@ module _ (c : Setting) (bytes : List ℕ) (start : State) (old_reader new_reader
 pub stopped_first : (c : Setting) (bytes : List ℕ) (start : State) (before after : World) → after.script ≡ Some bytes → after.rows ≡ Some start.rows → after.written ≡ before.written
     → (turns : List Turn) × StoppedAt c s.Memory before after start bytes turns
 stopped_first c bytes start before after told rows same = (
-      [],
-      record {
-        front = [];
-        rest = bytes;
-        left = bytes;
-        whole = refl;
-        is_left = told;
-        lines = refl;
-        stops = tt;
-        state = same_rows c start (lines_of bytes) _ rows;
-        piece = [];
-        is_piece = no_piece c start (lines_of bytes);
-        only_write = λ ne. refl;
-        written = rw same (Appends-nil before.written);
-      },
-    )
+  [],
+  record {
+    front = [];
+    rest = bytes;
+    left = bytes;
+    whole = refl;
+    is_left = told;
+    lines = refl;
+    stops = tt;
+    state = rows_stay c start (lines_of bytes) _ rows;
+    same_rows = λ _. rows;
+    piece = [];
+    is_piece = no_piece c start (lines_of bytes);
+    only_write = λ ne. refl;
+    written = rw same (Appends-nil before.written);
+  },
+)

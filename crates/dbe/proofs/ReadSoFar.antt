@@ -1,16 +1,13 @@
 -- How far a script was read: the lines that were given, and what is to come.
-use Rattle.std.proofs.Common.{◌≡◌, ◌⊎◌, ℕ, ◌+◌, ◌-◌, ◌<◌, ◌≤◌, true, false, List, [], ◌∷◌, ◌++◌, length, Vec, Some, None, inl, inr, refl, sym, ap, ◌∙◌, subst, arith, append_assoc, append-nil, length-append}
+use Rattle.std.proofs.Common.{◌≡◌, ◌⊎◌, ℕ, ◌+◌, ◌<◌, ◌≤◌, true, List, [], ◌∷◌, ◌++◌, length, Vec, Some, None, inl, inr, refl, sym, ap, ◌∙◌, subst, arith, append_assoc, append-nil, length-append}
 use Rattle.std.specs.declared.alloc.Global.{Global}
 use Rattle.std.specs.declared.option.Option.{Option}
 use Rattle.std.specs.List.{All}
-use Rattle.std.specs.Io.KnownBytes.{Consumes, IsAtEnd, Keeps}
+use Rattle.std.specs.Io.KnownBytes.{Consumes, IsAtEnd}
 use Rattle.std.proofs.lemmas.List.Elements.{All-nil, All-push}
-use Rattle.dbe_io.specs.declared.lines.LineFault.{LineFault}
-use Rattle.dbe_io.specs.declared.lines.LineFault.TheVariants as f
-use Rattle.dbe_io.specs.Lines.{lines_of, ended_lines, first_piece, HasNone, IsTooLong, IsTooMuch, IsWhole}
-use Rattle.dbe_io.specs.Reading.{Reading, Given, GaveUp, StaysUp, Stops, IsGiven, IsEndedLine, IsLastLine, IsCause, Moved, most_of}
-use Rattle.dbe_io.proofs.LineLaws.{lines_of-ended, lines_of-last, lines_of-front, lines_of-whole, ended_lines-more, ended_lines-open, IsWhole-ended, IsTooLong-more, IsTooMuch-more}
-use Rattle.dbe.specs.Stops.{AreEndedIn}
+use Rattle.dbe_io.specs.Lines.{lines_of, ended_lines, HasNone, IsWhole}
+use Rattle.dbe_io.specs.Reading.{Reading, Given, IsEndedLine, IsLastLine, Moved, most_of}
+use Rattle.dbe_io.proofs.LineLaws.{lines_of-ended, lines_of-last, lines_of-front, ended_lines-more, IsWhole-ended}
 
 -- The lines are those that newlines end in the front, or all of them at the end.
 abbrev pub AreDone : List (List ℕ) → List ℕ → List ℕ → Type 0
@@ -165,3 +162,14 @@ ReadSoFar-none limit total bytes old new left left' lines p g was =
     let shape : old.held ++ p.to_come ≡ [] =
     ap (λ l. old.held ++ l) pull.whole ∙ sym (append_assoc old.held g.moved pull.rest) ∙ ap (λ l. l ++ pull.rest) g.given.0 ∙ nothing in
     sym (p.lines_are ∙ ap (λ l. lines ++ lines_of l) shape ∙ append-nil lines)
+
+pub ReadSoFar-within : (limit total : ℕ) (bytes : List ℕ) (old new : Reading) (left left' : Option (List ℕ)) (lines : List (List ℕ))
+    → (p : ReadSoFar limit total bytes old left lines) → Given old new left left' None → (old.ended ≡ true → IsAtEnd left) → All (λ line. length line ≤ limit) (lines_of bytes) × (length bytes ≤ total)
+ReadSoFar-within limit total bytes old new left left' lines p g was =
+    let pull = pulled_from left left' p.to_come g.moved p.is_left g.moves.gone in
+    let nothing : pull.rest ≡ [] = empty_left left' pull.rest pull.is_left (g.at_end g.given.2 was) in
+    let shape : old.held ++ p.to_come ≡ [] =
+    ap (λ l. old.held ++ l) pull.whole ∙ sym (append_assoc old.held g.moved pull.rest) ∙ ap (λ l. l ++ pull.rest) g.given.0 ∙ nothing in
+    let size : length bytes ≡ length p.front = ap length (p.whole ∙ ap (λ l. p.front ++ l) shape ∙ append-nil p.front) in
+    let P : List (List ℕ) → Type 0 = λ ls. All (λ line. length line ≤ limit) ls in
+    (subst P (ReadSoFar-none limit total bytes old new left left' lines p g was) p.short, omega (arith, size, p.within))

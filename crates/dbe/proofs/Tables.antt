@@ -1,18 +1,17 @@
 -- Rows in key order, and the map that holds them under their keys.
-use Rattle.std.proofs.Common.{◌≡◌, ℕ, ◌+◌, ◌<◌, ◌≤◌, Bool, true, false, List, [], ◌∷◌, ◌++◌, Some, None, refl, sym, ap, ◌∙◌, arith, length, get_or, map, filter, String, string_bytes, string_cmp, Global, Ordering, Less, Equal, Greater, bytes_eq, nat_cmp, is_eq, unwrap_or, subst, append_assoc}
+use Rattle.std.proofs.Common.{◌≡◌, ℕ, ◌+◌, ◌<◌, true, List, [], ◌∷◌, ◌++◌, Some, refl, sym, ap, ◌∙◌, arith, length, get_or, map, String, string_bytes, string_cmp, Global, Ordering, Less, Equal, Greater, nat_cmp, is_eq, unwrap_or, subst, append_assoc}
 use Rattle.std.specs.Cmp.Lexicographic.{slice_cmp}
-use Rattle.std.specs.List.{All, AllByRecursion}
+use Rattle.std.specs.List.{AllByRecursion}
 use Rattle.std.specs.List.Sorted.{IsStrictlySortedBy}
 use Rattle.std.specs.Ordering.{match_ordering, ordering_reverse}
 use Rattle.std.specs.BTreeMap.{insert_entry}
-use Rattle.std.specs.Map.{keys_of, values_of}
+use Rattle.std.specs.Map.{values_of}
 use Rattle.std.proofs.lemmas.Cmp.{nat_list_cmp_total}
 use Rattle.std.proofs.lemmas.List.{get_or-map}
 use Rattle.std.proofs.lemmas.List.Elements.{All-from_get_or}
 use Rattle.std.proofs.lemmas.Map.Keys.{sorted_from_all_adjacent}
 use Rattle.std.proofs.lemmas.Map.Text.{is_eq-slice_cmp}
 use Rattle.std.proofs.lemmas.Slice.Eq.{bytes_eq-Decides}
-use Rattle.dbe_values.specs.declared.value.AttrValue.{AttrValue}
 use Rattle.dbe_values.specs.declared.key.KeySchema.{KeySchema}
 use Rattle.dbe_values.specs.Keys.{has_key, row_key, key_of, key_order}
 use Rattle.dbe_cond.specs.declared.wanted.Wanted.TheVariants.{Every}

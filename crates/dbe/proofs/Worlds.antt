@@ -1,10 +1,10 @@
 -- Worlds that tell the same.
-use Rattle.std.proofs.Common.{◌≡◌, ℕ, List, ◌++◌, Some, sym, ◌∙◌, subst}
+use Rattle.std.proofs.Common.{◌≡◌, ℕ, List, ◌++◌, sym, ◌∙◌, subst}
 use Rattle.std.specs.declared.option.Option.{Option}
 use Rattle.std.specs.Io.KnownBytes.{Appends}
 use Rattle.dbe.specs.Setting.{Setting}
-use Rattle.dbe.specs.Run.{State, Turn, run, World, Replied, RanWith}
-use Rattle.dbe.specs.Stops.{AreRowsBefore, StoppedAt, StoppedWith}
+use Rattle.dbe.specs.Run.{State, run, World, RanWith}
+use Rattle.dbe.specs.Stops.{AreRowsBefore, StoppedWith}
 use Rattle.dbe_io.specs.Lines.{lines_of}
 use Rattle.dbe_values.specs.declared.value.AttrValue.{AttrValue}
 use Rattle.dbe.specs.declared.status.Status.{Status}
@@ -21,25 +21,23 @@ module _ (c : Setting) (w w' v v' : World) (script : w.script ≡ v.script) (com
   rows_same : (s : State) (lines : List (List ℕ)) → AreRowsBefore c s lines w'.rows → AreRowsBefore c s lines v'.rows
   rows_same s lines h = let P : Option (List (List (List ℕ × AttrValue))) → Type 0 = λ o. AreRowsBefore c s lines o in subst P rows h
 
-  pub StoppedWith-same : (status status' : Status) → status ≡ status' → w'.script ≡ v'.script → StoppedWith c status w w' → StoppedWith c status' v v'
-  StoppedWith-same status status' is left stopped =
-      let P : Status → Type 0 = λ st. StoppedWith c st v v' in
-      subst P is (λ bytes start told are.
-          let r = stopped bytes start (script ∙ told) (coming ∙ are) in
-          (
-            r.0,
-            record {
-              front = r.1.front;
-              rest = r.1.rest;
-              left = r.1.left;
-              whole = r.1.whole;
-              is_left = sym left ∙ r.1.is_left;
-              lines = r.1.lines;
-              stops = r.1.stops;
-              state = rows_same (run c start r.0).state (lines_of r.1.rest) r.1.state;
-              piece = r.1.piece;
-              is_piece = r.1.is_piece;
-              only_write = r.1.only_write;
-              written = appends_same w.written v.written w'.written v'.written ((run c start r.0).text ++ r.1.piece) old new r.1.written;
-            },
-          ))
+  pub StoppedWith-same : (status : Status) → w'.script ≡ v'.script → StoppedWith c status w w' → StoppedWith c status v v'
+  StoppedWith-same status left stopped = λ bytes start told are.
+      let r = stopped bytes start (script ∙ told) (coming ∙ are) in (
+        r.0,
+        record {
+          front = r.1.front;
+          rest = r.1.rest;
+          left = r.1.left;
+          whole = r.1.whole;
+          is_left = sym left ∙ r.1.is_left;
+          lines = r.1.lines;
+          stops = r.1.stops;
+          state = rows_same (run c start r.0).state (lines_of r.1.rest) r.1.state;
+          same_rows = λ other. sym rows ∙ r.1.same_rows other;
+          piece = r.1.piece;
+          is_piece = r.1.is_piece;
+          only_write = r.1.only_write;
+          written = appends_same w.written v.written w'.written v'.written ((run c start r.0).text ++ r.1.piece) old new r.1.written;
+        },
+      )

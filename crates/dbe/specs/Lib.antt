@@ -10,3 +10,4 @@ pub mod Steps
 pub mod Stops
 pub mod Turns
 pub mod Rules
+pub mod Codes

@@ -1,5 +1,5 @@
 -- Items under their keys as a map, what a script makes of it, and which rows stand for it.
-use Rattle.std.specs.Prelude.{◌≡◌, ℕ, true, List, [], ◌∷◌, ◌++◌, filter, bytes_eq, if◌then◌else◌}
+use Rattle.std.specs.Prelude.{◌≡◌, ℕ, true, List, [], ◌∷◌, ◌++◌, filter, length, bytes_eq, if◌then◌else◌}
 use Rattle.std.specs.List.{All}
 use Rattle.std.specs.Ordering.{is_lt}
 use Rattle.dbe_values.specs.declared.value.AttrValue.{AttrValue}
@@ -43,9 +43,9 @@ After c m (line ∷ lines) (reply ∷ replies) = After c (after_line c m line re
 abbrev pub select_of : Cond → Items → Items
 select_of cond m = filter (holds cond) m
 
--- A query's reply is a line for each item of the map of which its condition is true, in key order, and then the count line.
+-- A query's reply is a line for each item of the map of which its condition is true, in key order, and then the line that counts them. A plain table hands out just these.
 abbrev pub IsAnswer : Setting → Items → List ℕ → List ℕ → Type 0
-IsAnswer c m line reply = (cond : Cond) → request_of c line ≡ r.Query cond → (scanned : ℕ) × (reply ≡ select_text (select_of cond m) scanned)
+IsAnswer c m line reply = (cond : Cond) → request_of c line ≡ r.Query cond → reply ≡ select_text (select_of cond m) (length (select_of cond m))
 
 -- A row of a plain table stands for the item that it is.
 abbrev pub AreRows : Items → Items → Type 0

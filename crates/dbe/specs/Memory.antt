@@ -7,12 +7,12 @@ use Rattle.dbe_values.specs.Keys.{key_of}
 
 -- a table in memory, as contracts see it
 pub record Held : Type 0 where
-  pub coming : List (List (List ℕ × AttrValue))   -- the rows that it was made with
-  pub begun : Option KeySchema                    -- the schema of the `begin` that was Ok
-  pub rows : List (List (List ℕ × AttrValue))     -- the rows, in key order
-  pub calls : ℕ                                   -- how many calls were made
-  pub fails : List ℕ                              -- which calls fail, from 1
-  pub faults : ℕ                                  -- how many have failed
+  pub coming : List (List (List ℕ × AttrValue))  -- the rows that it was made with
+  pub begun : Option KeySchema  -- the schema of the `begin` that was Ok
+  pub rows : List (List (List ℕ × AttrValue))  -- the rows, in key order
+  pub calls : ℕ  -- how many calls were made
+  pub fails : List ℕ  -- which calls fail, from 1
+  pub faults : ℕ  -- how many have failed
 
 -- each row stands under its key
 abbrev pub AreKeyed : KeySchema → List (String Global × List (List ℕ × AttrValue)) → Type 0

@@ -72,9 +72,10 @@ pub record World : Type 0 where
   pub rows : Option (List (List (List ℕ × AttrValue)))
   pub written : Option (List ℕ)
 
--- the setting is the one that the configuration's bytes spell, where they are told
-abbrev pub IsSettingOf : World → Setting → Type 0
-IsSettingOf before c = (bytes : List ℕ) → before.config ≡ Some bytes → configured bytes ≡ Ok c
+-- The setting is the one that the configuration's bytes spell, where they are told, and the table began with its schema.
+pub record IsSettingOf (before after : World) (c : Setting) : Type 0 where
+  pub spelled : (bytes : List ℕ) → before.config ≡ Some bytes → configured bytes ≡ Ok c
+  pub begun : after.begun ≡ Some c.schema
 
 -- from one world to the next some lines got their replies
 pub record Replied (c : Setting) (before after : World) (start : State) (turns : List Turn) : Type 0 where
@@ -87,7 +88,7 @@ RanWith c before after = (bytes : List ℕ) (start : State) → before.script �
     (turns : List Turn) × (lines_in turns ≡ lines_of bytes) × Replied c before after start turns
 
 abbrev pub Ran : World → World → Type 0
-Ran before after = (c : Setting) × IsSettingOf before c × RanWith c before after
+Ran before after = (c : Setting) × IsSettingOf before after c × RanWith c before after
 
 -- each query's reply is from the map as the lines before it left it
 abbrev pub AreAnswers : Setting → State → Items → List Turn → Type 0
@@ -107,4 +108,4 @@ HeadlineWith c before after = (bytes : List ℕ) (start : State) (m : Items) →
     (turns : List Turn) × (lines_in turns ≡ lines_of bytes) × AnsweredBy c before after start m turns
 
 abbrev pub Headline : World → World → Type 0
-Headline before after = (c : Setting) × IsSettingOf before c × HeadlineWith c before after
+Headline before after = (c : Setting) × IsSettingOf before after c × HeadlineWith c before after

@@ -1,14 +1,12 @@
 -- What is fixed in a run: the configuration, and the bytes that spell it (this project's own).
-use Rattle.std.specs.Prelude.{ℕ, ◌==◌, ◌&&◌, ◌||◌, not, Bool, true, false, List, [], ◌∷◌, length, nat_eq, nat_lt, nat_le, codes, bytes_eq, Option, Some, None, is_some, option_map, option_and_then, Result, Ok, Err, if◌then◌else◌}
+use Rattle.std.specs.Prelude.{ℕ, ◌==◌, ◌&&◌, ◌||◌, not, Bool, true, false, List, [], length, nat_eq, nat_lt, nat_le, codes, bytes_eq, Option, Some, None, option_map, option_and_then, Result, Ok, Err, if◌then◌else◌}
 use Rattle.std.specs.List.{starts_with, list_any}
 use Rattle.std.specs.Ordering.{nat_cmp}
 use Rattle.std.specs.Cmp.Lexicographic.{slice_cmp}
 use Rattle.std.specs.BTreeMap.{insert_entry}
-use Rattle.serde_json.specs.Data.{Data, null, boolean, number, string, array, object, Items, no_items, item, Members, no_members, member}
+use Rattle.serde_json.specs.Data.{Data, Items, no_items, item, Members, no_members, member}
 use Rattle.serde_json.specs.Find.{get, as_str, as_object, as_array}
-use Rattle.serde_json.specs.Events.{members_len}
 use Rattle.dbe_values.specs.declared.key.KeyKind.TheVariants as kind
-use Rattle.dbe_values.specs.declared.key.KeyName.{KeyName}
 use Rattle.dbe_values.specs.declared.key.KeySchema.{KeySchema}
 use Rattle.dbe_values.specs.Json.{json_of, size_of}
 use Rattle.dbe.specs.declared.config.Action.{Action}
@@ -18,9 +16,9 @@ use Rattle.dbe.specs.declared.config.ConfigFault.TheVariants as f
 
 -- a configuration
 pub record Setting : Type 0 where
-  pub table : List ℕ                           -- the table's name
-  pub schema : KeySchema                       -- the key of its rows
-  pub actions : List (List ℕ × Action)         -- the listed attributes, in order of names
+  pub table : List ℕ  -- the table's name
+  pub schema : KeySchema  -- the key of its rows
+  pub actions : List (List ℕ × Action)  -- the listed attributes, in order of names
 
 -- whether a name is listed
 abbrev pub is_listed : List ℕ → List (List ℕ × Action) → Bool

@@ -139,7 +139,11 @@ fn given_name(value: Option<&Value>) -> Option<&str>
     ensures { option_map (λ t. t.now) result ≡ text_if is_given_name (option_map (λ v. view v.now) value.entry) }
 {
     let text = value?.as_str()?;
-    if is_given_name(text) { Some(text) } else { None }
+    if is_given_name(text) {
+        Some(text)
+    } else {
+        None
+    }
 }
 
 fn is_given_name(name: &str) -> bool

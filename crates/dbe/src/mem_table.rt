@@ -176,7 +176,11 @@ fn is_below(schema: &KeySchema, a: &Item, b: &Item) -> bool
 }
 
 // The rows under their keys.
-fn loaded(alloc: Global, schema: &KeySchema, rows: Vec<Item>) -> Result<BTreeMap<String, Item>, Memory>
+fn loaded(
+    alloc: Global,
+    schema: &KeySchema,
+    rows: Vec<Item>,
+) -> Result<BTreeMap<String, Item>, Memory>
     requires { IsTable schema.now rows.items }
     ensures keyed { IfOk result (λ m. AreKeyed schema.now m.entries) }
     ensures rows { IfOk result (λ m. values m ≡ rows.items) }

@@ -127,7 +127,11 @@ fn query_in(alloc: Global, value: Option<&Value>) -> Result<Option<Cond>, Memory
     if size_of(value) != 2 {
         return Ok(None);
     }
-    cond_in(alloc, value.get("condition").and_then(Value::as_str), value.get("values"))
+    cond_in(
+        alloc,
+        value.get("condition").and_then(Value::as_str),
+        value.get("values"),
+    )
 }
 
 fn cond_in(

@@ -1,7 +1,9 @@
 ghost use Rattle.std.specs.Prelude.{◌≡◌, ◌≢◌, ◌↔◌, ◌⊎◌, ◌<◌, ◌≤◌, ℕ, List, true, Some, None, Ok, Err, IfOk, IfErr, OnOk, IsSome, length};
 ghost use Rattle.std.specs.Io.KnownBytes.{IsAtEnd, Consumes};
 ghost use Rattle.dbe_values.specs.declared.value.AttrValue.{AttrValue};
+ghost use Rattle.std.specs.List.{All};
 ghost use Rattle.dbe_io.specs.Causes.{Rose};
+ghost use Rattle.dbe_io.specs.Lines.{lines_of};
 ghost use Rattle.dbe.specs.Run.{State, Ran, RanWith, Headline, World};
 ghost use Rattle.dbe.specs.Setting.{configured};
 ghost use Rattle.dbe.specs.Rules.{IsRefused, IsOfConfig, IsOfReading, IsFrontOf, IsWithinRules};
@@ -44,6 +46,7 @@ pub fn serve<C: Source, S: Source, O: Sink, T: Table>(
     ensures done { result ≡ Status.Done → Ran
         (record { config = C.left config.old; script = S.left script.old; coming = T.coming table.old; begun = T.begun table.old; rows = T.rows table.old; written = O.written out.old })
         (record { config = C.left config.new; script = S.left script.new; coming = T.coming table.new; begun = T.begun table.new; rows = T.rows table.new; written = O.written out.new }) }
+    ensures within { result ≡ Status.Done → (bytes : List ℕ) → S.left script.old ≡ Some bytes → All (λ line. length line ≤ 1048576) (lines_of bytes) × (length bytes ≤ 1073741824) }
     ensures at_end { result ≡ Status.Done → IsAtEnd (S.left script.new) }
     ensures finished { result ≡ Status.Done → O.finished out.new ≡ true }
 
@@ -51,10 +54,11 @@ pub fn serve<C: Source, S: Source, O: Sink, T: Table>(
     ensures stopped { result ≢ Status.Done → IsSome (T.begun table.new) → Stopped result
         (record { config = C.left config.old; script = S.left script.old; coming = T.coming table.old; begun = T.begun table.old; rows = T.rows table.old; written = O.written out.old })
         (record { config = C.left config.new; script = S.left script.new; coming = T.coming table.new; begun = T.begun table.new; rows = T.rows table.new; written = O.written out.new }) }
-    ensures kept { result ≢ Status.Done → IsSome (T.begun table.new) → Kept
+    ensures kept { result ≢ Status.Done → IsSome (T.begun table.new) → Kept result
         (record { config = C.left config.old; script = S.left script.old; coming = T.coming table.old; begun = T.begun table.old; rows = T.rows table.old; written = O.written out.old })
         (record { config = C.left config.new; script = S.left script.new; coming = T.coming table.new; begun = T.begun table.new; rows = T.rows table.new; written = O.written out.new }) }
-    ensures untouched { T.begun table.new ≡ None → O.written out.new ≡ O.written out.old }
+    ensures untouched { T.begun table.new ≡ None → (O.written out.new ≡ O.written out.old) × (S.left script.new ≡ S.left script.old) }
+    ensures late { (result ≡ Status.Done) ⊎ ((result ≡ Status.LineTooLong) ⊎ ((result ≡ Status.ScriptTooLong) ⊎ (result ≡ Status.Write))) → IsSome (T.begun table.new) }
 
     // When each status comes.
     ensures words { (result ≡ Status.Words) ↔ (0 < length words.now) }
@@ -89,7 +93,9 @@ fn served<C: Source, S: Source, O: Sink, T: Table>(
     ensures stopped { result ≢ Status.Done → IsSome (T.begun table.new) → Stopped result
         (record { config = C.left config.old; script = S.left script.old; coming = T.coming table.old; begun = T.begun table.old; rows = T.rows table.old; written = O.written out.old })
         (record { config = C.left config.new; script = S.left script.new; coming = T.coming table.new; begun = T.begun table.new; rows = T.rows table.new; written = O.written out.new }) }
-    ensures untouched { T.begun table.new ≡ None → O.written out.new ≡ O.written out.old }
+    ensures untouched { T.begun table.new ≡ None → (O.written out.new ≡ O.written out.old) × (S.left script.new ≡ S.left script.old) }
+    ensures late { (result ≡ Status.Done) ⊎ ((result ≡ Status.LineTooLong) ⊎ ((result ≡ Status.ScriptTooLong) ⊎ (result ≡ Status.Write))) → IsSome (T.begun table.new) }
+    ensures within { result ≡ Status.Done → (bytes : List ℕ) → S.left script.old ≡ Some bytes → All (λ line. length line ≤ 1048576) (lines_of bytes) × (length bytes ≤ 1073741824) }
     ensures at_end { result ≡ Status.Done → IsAtEnd (S.left script.new) }
     ensures finished { result ≡ Status.Done → O.finished out.new ≡ true }
     ensures words { (result ≡ Status.Words) ↔ (0 < length words.now) }
@@ -163,7 +169,9 @@ fn serve_table<S: Source, O: Sink, T: Table>(
     ensures stopped { result ≢ Status.Done → IsSome (T.begun table.new) → StoppedWith config.now result
         (record { config = None; script = S.left script.old; coming = T.coming table.old; begun = None; rows = None; written = O.written out.old })
         (record { config = None; script = S.left script.new; coming = λ _. None; begun = None; rows = T.rows table.new; written = O.written out.new }) }
-    ensures untouched { T.begun table.new ≡ None → O.written out.new ≡ O.written out.old }
+    ensures untouched { T.begun table.new ≡ None → (O.written out.new ≡ O.written out.old) × (S.left script.new ≡ S.left script.old) }
+    ensures late { (result ≡ Status.Done) ⊎ ((result ≡ Status.LineTooLong) ⊎ ((result ≡ Status.ScriptTooLong) ⊎ (result ≡ Status.Write))) → IsSome (T.begun table.new) }
+    ensures within { result ≡ Status.Done → (bytes : List ℕ) → S.left script.old ≡ Some bytes → All (λ line. length line ≤ 1048576) (lines_of bytes) × (length bytes ≤ 1073741824) }
     ensures at_end { result ≡ Status.Done → IsAtEnd (S.left script.new) }
     ensures finished { result ≡ Status.Done → O.finished out.new ≡ true }
     ensures read { result ≡ Status.Read → Rose (S.faults script.old) (S.faults script.new) }
@@ -171,6 +179,7 @@ fn serve_table<S: Source, O: Sink, T: Table>(
     ensures long_script { result ≡ Status.ScriptTooLong → (bytes : List ℕ) → S.left script.old ≡ Some bytes → 1073741824 < length bytes }
     ensures write { result ≡ Status.Write → Rose (O.faults out.old) (O.faults out.new) ⊎ Rose (O.idle out.old) (O.idle out.new) }
     ensures table { result ≡ Status.Table → Rose (T.faults table.old) (T.faults table.new) }
+    ensures schema { IsSome (T.begun table.new) → T.begun table.new ≡ Some config.now.schema }
     ensures not_words { result ≢ Status.Words }
     ensures not_config { (f : the_fault) → result ≢ Status.Config f }
 {
@@ -196,6 +205,7 @@ fn serve_lines<S: Source, O: Sink, T: Table>(
     ensures stopped { result ≢ Status.Done → StoppedWith config.now result
         (record { config = None; script = S.left script.old; coming = λ _. T.rows table.old; begun = None; rows = None; written = O.written out.old })
         (record { config = None; script = S.left script.new; coming = λ _. None; begun = None; rows = T.rows table.new; written = O.written out.new }) }
+    ensures within { result ≡ Status.Done → (bytes : List ℕ) → S.left script.old ≡ Some bytes → All (λ line. length line ≤ 1048576) (lines_of bytes) × (length bytes ≤ 1073741824) }
     ensures at_end { result ≡ Status.Done → IsAtEnd (S.left script.new) }
     ensures finished { result ≡ Status.Done → O.finished out.new ≡ true }
     ensures read { result ≡ Status.Read → Rose (S.faults script.old) (S.faults script.new) }

@@ -1,4 +1,3 @@
-use Rattle.std.proofs.Common.{rules, ◌≡◌, ◌∷◌}
 use Rattle.std.specs.BTreeMap.{values}
 use Rattle.std.specs.Vec.Iter.{into_iter_items}
 use Rattle.dbe.proofs.Tables.{loaded_more}

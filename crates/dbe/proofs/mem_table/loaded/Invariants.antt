@@ -1,6 +1,5 @@
 use Rattle.std.proofs.Common.{◌≡◌, ◌++◌}
 use Rattle.std.specs.BTreeMap.{values}
-use Rattle.dbe.specs.Rows.{IsTable}
 use Rattle.dbe.specs.Memory.{AreKeyed}
 use Rattle.std.specs.Vec.Iter.{into_iter_items}
 use Rattle.dbe.proofs.mem_table.loaded.Given as goal

@@ -1,6 +1,5 @@
 use Rattle.std.proofs.Common.{◌≡◌, ◌∙◌, rules, string_bytes, sym, Some}
 use Rattle.dbe_values.specs.Keys.{row_key, key_of}
-use Rattle.dbe.specs.Memory.{AreKeyed}
 use Rattle.dbe.proofs.Tables.{values-insert, keyed-insert, read_is}
 use Rattle.dbe.proofs.mem_table.put_among.Goals as goal
 

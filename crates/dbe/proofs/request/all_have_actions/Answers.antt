@@ -1,4 +1,4 @@
-use Rattle.std.proofs.Common.{rules, ◌≡◌, ◌∙◌, sym, true, false}
+use Rattle.std.proofs.Common.{rules, ◌≡◌, true, false}
 use Rattle.dbe.specs.Requests.{has_action}
 use Rattle.dbe.proofs.Walks.{all_more, all_fails}
 use Rattle.dbe.proofs.request.all_have_actions.Goals as goal

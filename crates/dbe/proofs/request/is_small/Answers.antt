@@ -1,4 +1,4 @@
-use Rattle.std.proofs.Common.{◌≡◌, ◌+◌, ◌<◌, arith, drop, sum_by}
+use Rattle.std.proofs.Common.{◌<◌, arith, sum_by}
 use Rattle.dbe.specs.Requests.{attribute_size}
 use Rattle.dbe.proofs.Walks.{sum_at, past_limit}
 use Rattle.dbe.proofs.request.is_small.Goals as goal

@@ -1,5 +1,4 @@
-use Rattle.std.proofs.Common.{◌≡◌, codes, false}
-use Rattle.serde_json.specs.Written.{has_float}
+use Rattle.std.proofs.Common.{codes}
 use Rattle.dbe.proofs.Floats.{no_float_item}
 use Rattle.dbe.proofs.texts.item_text.Goals as goal
 

@@ -1,9 +1,9 @@
-use Rattle.std.proofs.Common.{◌≡◌, ◌≢◌, ◌∙◌, arith, refl, sym, ap, false, true, [], inl, inr, Some, None, ◌++◌}
+use Rattle.std.proofs.Common.{◌≡◌, ◌∙◌, arith, refl, sym, ap, [], inl, inr, ◌++◌}
 use Rattle.std.proofs.lemmas.Bool.{false≢true}
-use Rattle.dbe_io.specs.Reading.{Reading, Given, Stops}
+use Rattle.dbe_io.specs.Reading.{Reading}
 use Rattle.dbe_io.specs.declared.lines.LineFault.TheVariants as f
 use Rattle.dbe.specs.declared.status.Status.TheVariants as s
-use Rattle.dbe.proofs.ReadSoFar.{ReadSoFar-start, ReadSoFar-more}
+use Rattle.dbe.proofs.ReadSoFar.{ReadSoFar-start, ReadSoFar-more, ReadSoFar-within}
 use Rattle.dbe.proofs.Halted.{gave_up, too_long, too_much, has_long_line, is_long_script}
 use Rattle.dbe.proofs.Progress.{Progress-start, Progress-more, Progress-done, stopped_first, stopped_read, stopped_memory, stopped_long, stopped_much, stopped_write, stopped_in_reply}
 use Rattle.dbe.proofs.top.serve_lines.Goals as goal
@@ -31,6 +31,11 @@ lines-init g c =
 pub returns-in-Ok-None-clause-done : goal.returns-in-Ok-None-clause-done
 returns-in-Ok-None-clause-done g c = λ is bytes start told rows.
     Progress-done _ bytes start _ c.next.new.self _ _ _ _ _ _ _ (c.lines.invariant.run bytes start told rows) (rw c.in-Ok-None.field-0-is at c.in-Ok-None.ensures.line) c.lines.invariant.at_end refl refl c.finished.ensures.same
+
+pub returns-in-Ok-None-clause-within : goal.returns-in-Ok-None-clause-within
+returns-in-Ok-None-clause-within g c = λ _ bytes told.
+    let q = c.lines.invariant.script bytes told in
+    ReadSoFar-within 1048576 1073741824 bytes _ c.next.new.self _ _ q.0 q.1 (rw c.in-Ok-None.field-0-is at c.in-Ok-None.ensures.line) c.lines.invariant.at_end
 
 pub returns-in-Ok-None-clause-stopped : goal.returns-in-Ok-None-clause-stopped
 returns-in-Ok-None-clause-stopped g c = λ ne bytes start told rows.

@@ -1,4 +1,4 @@
-use Rattle.std.proofs.Common.{◌≡◌, ◌∙◌, ap, refl, sym}
+use Rattle.std.proofs.Common.{◌∙◌, ap, refl}
 use Rattle.dbe.proofs.Worlds.{RanWith-same, StoppedWith-same}
 use Rattle.dbe.proofs.top.serve_table.Goals as goal
 
@@ -8,4 +8,4 @@ returns-in-Ok-clause-done g c = λ is.
 
 pub returns-in-Ok-clause-stopped : goal.returns-in-Ok-clause-stopped
 returns-in-Ok-clause-stopped g c = λ ne _.
-    StoppedWith-same c.args.config.now _ _ _ _ refl (c.in-Ok.ensures.rows ∙ ap (g.T.Table.coming c.args.table.now) c.schema.ensures) refl refl refl _ _ refl refl (c.serve_lines.ensures.stopped ne)
+    StoppedWith-same c.args.config.now _ _ _ _ refl (c.in-Ok.ensures.rows ∙ ap (g.T.Table.coming c.args.table.now) c.schema.ensures) refl refl refl _ refl (c.serve_lines.ensures.stopped ne)

@@ -1,5 +1,4 @@
-use Rattle.std.proofs.Common.{◌≡◌, ◌∙◌, sym, ap, is_some}
-use Rattle.dbe.specs.Setting.{is_listed}
+use Rattle.std.proofs.Common.{◌∙◌, sym, ap, is_some}
 use Rattle.dbe.proofs.Entries.{listed, is_some-copied}
 use Rattle.dbe.proofs.config.Config.lists.Goals as goal
 
