@@ -1,11 +1,11 @@
 -- Numbers compared by their digits and places.
-use Rattle.std.proofs.Common.{◌≡◌, ◌≢◌, ℕ, zero, suc, ◌+◌, ◌-◌, ◌*◌, ◌^◌, ◌<◌, ◌≤◌, Bool, true, false, pos, neg_ℤ, refl, sym, ap, ◌∙◌, arith, ◌⊎◌, inl, inr, mul_assoc, sub-add_cancel}
+use Rattle.std.proofs.Common.{◌≡◌, ◌≢◌, ℕ, zero, suc, ◌+◌, ◌-◌, ◌*◌, ◌^◌, ◌<◌, ◌≤◌, true, false, pos, neg_ℤ, refl, sym, ap, ◌∙◌, arith, ◌⊎◌, inl, inr, mul_assoc}
 use Rattle.std.proofs.Common.{nat_cmp, int_cmp, Ordering, Less, Equal, Greater}
 use Rattle.std.specs.Ordering.{ordering_reverse}
 use Rattle.std.proofs.lemmas.Bool.Decides.{nat_tests}
 use Rattle.std.proofs.lemmas.Nat.{mul-le, pow-add}
 use Rattle.std.proofs.Math.Nat.{pow-le-pow_right}
-use Rattle.dbe_num.specs.Decimal.{Decimal, IsNormal, zero_number, units, number_order}
+use Rattle.dbe_num.specs.Decimal.{Decimal, IsNormal, number_order}
 use Rattle.dbe_num.proofs.Digits.{ten_pow_pos}
 
 cmp_less : (x y : ℕ) → x < y → nat_cmp x y ≡ Less
@@ -17,32 +17,32 @@ cmp_greater x y h = grind (arith, nat_tests)
 cmp_equal : (x : ℕ) → nat_cmp x x ≡ Equal
 cmp_equal x = grind (arith, nat_tests)
 
-three_ways : (x y : ℕ) → (x < y) ⊎ ((y < x) ⊎ (x ≡ y))
+pub three_ways : (x y : ℕ) → (x < y) ⊎ ((y < x) ⊎ (x ≡ y))
 three_ways x y = grind arith
 
-times_below : (x y k : ℕ) → x < y → 0 < k → x * k < y * k
+pub times_below : (x y k : ℕ) → x < y → 0 < k → x * k < y * k
 times_below x y k h p = omega (arith, mul-le (x + 1) k y k (omega arith) (omega arith))
 
 cmp_scaled : (x y k : ℕ) → 0 < k → nat_cmp (x * k) (y * k) ≡ nat_cmp x y
 cmp_scaled x y k p =
     elim (three_ways x y) [
-      inl h ↦ cmp_less (x * k) (y * k) (times_below x y k h p) ∙ sym (cmp_less x y h)
+      | inl h ↦ cmp_less (x * k) (y * k) (times_below x y k h p) ∙ sym (cmp_less x y h)
       | inr h ↦
-        elim h [
-          inl g ↦ cmp_greater (x * k) (y * k) (times_below y x k g p) ∙ sym (cmp_greater x y g)
-          | inr e ↦ rw e (cmp_equal (y * k) ∙ sym (cmp_equal y))
-        ]
+          elim h [
+            | inl g ↦ cmp_greater (x * k) (y * k) (times_below y x k g p) ∙ sym (cmp_greater x y g)
+            | inr e ↦ rw e (cmp_equal (y * k) ∙ sym (cmp_equal y))
+          ]
     ]
 
 pub cmp_reversed : (x y : ℕ) → ordering_reverse (nat_cmp x y) ≡ nat_cmp y x
 cmp_reversed x y =
     elim (three_ways x y) [
-      inl h ↦ ap ordering_reverse (cmp_less x y h) ∙ sym (cmp_greater y x h)
+      | inl h ↦ ap ordering_reverse (cmp_less x y h) ∙ sym (cmp_greater y x h)
       | inr h ↦
-        elim h [
-          inl g ↦ ap ordering_reverse (cmp_greater x y g) ∙ sym (cmp_less y x g)
-          | inr e ↦ rw e (ap ordering_reverse (cmp_equal y) ∙ sym (cmp_equal y))
-        ]
+          elim h [
+            | inl g ↦ ap ordering_reverse (cmp_greater x y g) ∙ sym (cmp_less y x g)
+            | inr e ↦ rw e (ap ordering_reverse (cmp_equal y) ∙ sym (cmp_equal y))
+          ]
     ]
 
 -- a number that stands p - q places higher

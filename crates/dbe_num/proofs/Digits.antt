@@ -1,14 +1,12 @@
 -- Lists of digits: zeros at either end, and the number that they are.
-use Rattle.std.proofs.Common.{◌≡◌, ◌≢◌, ℕ, zero, suc, ◌+◌, ◌-◌, ◌*◌, ◌^◌, ◌<◌, ◌≤◌, min, Bool, true, false, ◌&&◌, eqb, eqb-true, List, [], ◌∷◌, ◌++◌, length, reverse, take, drop, get_or, refl, sym, ap, ◌∙◌, subst, arith, ◌⊎◌, inl, inr, append-nil, append_assoc, drop-cons, add-one, pow-suc, length-append}
+use Rattle.std.proofs.Common.{◌≡◌, ◌≢◌, ℕ, zero, suc, ◌+◌, ◌-◌, ◌*◌, ◌^◌, ◌<◌, ◌≤◌, min, Bool, true, false, ◌&&◌, List, [], ◌∷◌, ◌++◌, length, reverse, refl, sym, ap, ◌∙◌, subst, arith, ◌⊎◌, inl, inr, append-nil, pow-suc, length-append}
 use Rattle.std.proofs.Math.Nat.{pow-le-pow_right}
-use Rattle.std.proofs.lemmas.List.{reverse-append, reverse-reverse, length-reverse, drop_more, drop_all, take_more, nil_from_length}
+use Rattle.std.proofs.lemmas.List.{reverse-append, reverse-reverse, length-reverse, nil_from_length}
 use Rattle.std.proofs.lemmas.Bool.Decides.{nat_tests, eqb_tells}
-use Rattle.std.proofs.lemmas.Grind.{common_steps}
 use Rattle.std.proofs.lemmas.Nat.{mul-le, pow-add}
 use Rattle.std.specs.Str.{all_ascii_digits}
 use Rattle.std.specs.Char.{is_ascii_digit}
-use Rattle.dbe_num.specs.Numeral.{without_front_zeros, without_end_zeros, significant, whole_number, whole_number_after}
-use Rattle.dbe_num.specs.Reading.{digits_at, after_digits}
+use Rattle.dbe_num.specs.Numeral.{without_front_zeros, without_end_zeros, whole_number, whole_number_after}
 
 -- zeros at the front
 pub without_front_zeros_other : (c : ℕ) (cs : List ℕ) → c ≢ 48 → without_front_zeros (c ∷ cs) ≡ c ∷ cs
@@ -19,7 +17,7 @@ pub without_front_zeros_past : (cs ds : List ℕ) → length (without_front_zero
 without_front_zeros_past [] ds h = refl
 without_front_zeros_past (c ∷ cs) ds h =
     elim (eqb_tells c 48) [
-      inl p ↦ rw p.0 (without_front_zeros_past cs ds (rw p.0 at h))
+      | inl p ↦ rw p.0 (without_front_zeros_past cs ds (rw p.0 at h))
       | inr p ↦ (let k : suc (length cs) ≡ 0 = rw p.0 at h in absurd (omega arith))
     ]
 
@@ -28,7 +26,7 @@ pub without_front_zeros_within : (cs ds : List ℕ) → 0 < length (without_fron
 without_front_zeros_within [] ds h = absurd (omega arith)
 without_front_zeros_within (c ∷ cs) ds h =
     elim (eqb_tells c 48) [
-      inl p ↦ rw p.0 (without_front_zeros_within cs ds (rw p.0 at h))
+      | inl p ↦ rw p.0 (without_front_zeros_within cs ds (rw p.0 at h))
       | inr p ↦ rw p.0
     ]
 
@@ -78,7 +76,7 @@ either_way a b = grind arith
 pub capped_step : (n most : ℕ) (cs : List ℕ) → min (whole_number_after (min n most) cs) most ≡ min (whole_number_after n cs) most
 capped_step n most cs =
     elim (either_way n most) [
-      inl p ↦ (let e : min n most ≡ n = omega arith in rw e)
+      | inl p ↦ (let e : min n most ≡ n = omega arith in rw e)
       | inr p ↦ (let e : min n most ≡ most = omega arith in rw e (omega (arith, whole_number_grows n cs, whole_number_grows most cs)))
     ]
 

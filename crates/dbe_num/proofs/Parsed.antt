@@ -1,15 +1,15 @@
 -- The cases of a text that is read, and exponents past the bound that the code counts to.
-use Rattle.std.proofs.Common.{◌≡◌, ◌≢◌, ℕ, zero, suc, ◌+◌, ◌-◌, ◌*◌, ◌^◌, ◌<◌, ◌≤◌, nat_lt, nat_le, min, Bool, true, false, ◌&&◌, List, [], ◌∷◌, ◌++◌, length, Option, Some, None, option_map, Result, Ok, Err, refl, sym, ap, ◌∙◌, arith, ◌⊎◌, inl, inr, length-append}
+use Rattle.std.proofs.Common.{◌≡◌, ℕ, ◌+◌, ◌-◌, ◌*◌, ◌^◌, ◌<◌, ◌≤◌, nat_lt, nat_le, min, Bool, true, false, ◌&&◌, List, [], ◌∷◌, ◌++◌, length, Option, Some, None, option_map, Result, Err, refl, sym, ap, ◌∙◌, arith, ◌⊎◌, inl, inr, length-append}
 use Rattle.std.proofs.lemmas.Bool.Decides.{nat_tests, eqb_tells}
 use Rattle.std.specs.Char.{is_ascii_digit}
 use Rattle.std.specs.Str.{all_ascii_digits}
 use Rattle.dbe_num.specs.Decimal.{Decimal}
-use Rattle.dbe_num.specs.Numeral.{Sign, minus, Fraction, fraction_digits, Power, no_power, power, is_minus, raised_by, lowered_by, is_in_range, significant, without_front_zeros, without_end_zeros, number_of_significant, number_of_digits, Numeral, numeral_number}
-use Rattle.dbe_num.specs.Reading.{sign_at, after_sign, digits_at, after_digits, fraction_at, after_fraction, power_of, with_power, number_of, number_of_option}
+use Rattle.dbe_num.specs.Numeral.{fraction_digits, Power, no_power, power, is_minus, raised_by, lowered_by, is_in_range, significant, without_front_zeros, number_of_significant, number_of_digits}
+use Rattle.dbe_num.specs.Reading.{sign_at, after_sign, digits_at, after_digits, fraction_at, after_fraction, power_of, number_of}
 use Rattle.dbe_num.specs.Shift.{shift_of}
 use Rattle.dbe_num.specs.declared.numeral.Shift.{Shift}
 use Rattle.dbe_num.specs.declared.number_fault.NumberFault.{NumberFault}
-use Rattle.dbe_num.specs.declared.number_fault.NumberFault.TheVariants.{NotNumber, OutOfRange}
+use Rattle.dbe_num.specs.declared.number_fault.NumberFault.TheVariants.{NotNumber}
 use Rattle.dbe_num.proofs.Significant.{without_front_zeros_shorter, without_end_zeros_shorter, digits_joined}
 
 -- ---- the exponent, and what the code has of it
@@ -67,19 +67,19 @@ module _ (negative : Bool) (cs : List ℕ) (r l after_point most : ℕ) (one : (
   capped_numbers : number_of_digits negative cs (min r most) (min l most + after_point) ≡ number_of_digits negative cs r (l + after_point)
   capped_numbers =
       elim (split r most) [
-        inl p ↦
-          elim (split l most) [
-            inl q ↦
-              (let e : min r most ≡ r = omega arith in
-              let f : min l most ≡ l = omega arith in
-              rw (e, f))
-            | inr q ↦
-              (let zero_r : r ≡ 0 = elim one [ inl z ↦ z | inr z ↦ absurd (omega arith) ] in
-              out_of_range negative (significant cs) _ _ _ _ (λ _. far_low (min l most) (omega arith) zero_r (min r most) (omega arith)) (λ _. far_low l (omega arith) zero_r r (omega arith)))
-          ]
+        | inl p ↦
+            elim (split l most) [
+              | inl q ↦
+                  (let e : min r most ≡ r = omega arith in
+                  let f : min l most ≡ l = omega arith in
+                  rw (e, f))
+              | inr q ↦
+                  (let zero_r : r ≡ 0 = elim one [ inl z ↦ z | inr z ↦ absurd (omega arith) ] in
+                  out_of_range negative (significant cs) _ _ _ _ (λ _. far_low (min l most) (omega arith) zero_r (min r most) (omega arith)) (λ _. far_low l (omega arith) zero_r r (omega arith)))
+            ]
         | inr p ↦
-          (let zero_l : l ≡ 0 = elim one [ inl z ↦ absurd (omega arith) | inr z ↦ z ] in
-          out_of_range negative (significant cs) _ _ _ _ (far_high (min r most) (omega arith) zero_l (min l most) (omega arith)) (far_high r (omega arith) zero_l l (omega arith)))
+            (let zero_l : l ≡ 0 = elim one [ inl z ↦ absurd (omega arith) | inr z ↦ z ] in
+            out_of_range negative (significant cs) _ _ _ _ (far_high (min r most) (omega arith) zero_l (min l most) (omega arith)) (far_high r (omega arith) zero_l l (omega arith)))
       ]
 
 pub capped_same : (negative : Bool) (cs : List ℕ) (p : Power) (after_point : ℕ) → length cs < 2 ^ 64 → after_point ≤ length cs → number_of_digits negative cs (min (raised_by p) (2 ^ 70)) (min (lowered_by p) (2 ^ 70) + after_point) ≡ number_of_digits negative cs (raised_by p) (lowered_by p + after_point)
@@ -107,11 +107,11 @@ one_more_digit : (c : ℕ) (cs : List ℕ) (b : Bool) → is_ascii_digit c ≡ b
 one_more_digit c cs true e h = rw (e, e) h
 one_more_digit c cs false e h = rw e
 
-digits_at_are_digits : (cs : List ℕ) → all_ascii_digits (digits_at cs) ≡ true
+pub digits_at_are_digits : (cs : List ℕ) → all_ascii_digits (digits_at cs) ≡ true
 digits_at_are_digits [] = refl
 digits_at_are_digits (c ∷ cs) = one_more_digit c cs (is_ascii_digit c) refl (digits_at_are_digits cs)
 
-fraction_are_digits : (cs : List ℕ) → all_ascii_digits (fraction_digits (fraction_at cs)) ≡ true
+pub fraction_are_digits : (cs : List ℕ) → all_ascii_digits (fraction_digits (fraction_at cs)) ≡ true
 fraction_are_digits [] = refl
 fraction_are_digits (c ∷ cs) =
     elim (eqb_tells c 46) [ inl p ↦ rw p.0 (digits_at_are_digits cs) | inr p ↦ rw p.0 ]

@@ -1,14 +1,14 @@
 -- Significant digits: what is left after zeros are taken away at both ends.
-use Rattle.std.proofs.Common.{◌≡◌, ◌≢◌, ℕ, zero, suc, ◌+◌, ◌-◌, ◌*◌, ◌/◌, ◌%◌, ◌^◌, ◌<◌, ◌≤◌, Bool, true, false, ◌&&◌, List, [], ◌∷◌, ◌++◌, length, reverse, take, drop, get_or, refl, sym, ap, ◌∙◌, subst, arith, ◌⊎◌, inl, inr, append-nil, length-append, length-take, take-append-drop, add-one, take-suc, decimal}
+use Rattle.std.proofs.Common.{◌≡◌, ◌≢◌, ℕ, zero, suc, ◌+◌, ◌-◌, ◌*◌, ◌/◌, ◌%◌, ◌^◌, ◌<◌, ◌≤◌, Bool, true, List, [], ◌∷◌, ◌++◌, length, reverse, take, drop, get_or, refl, sym, ap, ◌∙◌, arith, inl, inr, length-append, length-take, take-append-drop, take-suc, decimal}
 use Rattle.std.proofs.lemmas.List.{reverse-append, reverse-reverse, length-reverse, take_more, take_all, nil_from_length}
-use Rattle.std.proofs.lemmas.Bool.Decides.{nat_tests, eqb_tells}
+use Rattle.std.proofs.lemmas.Bool.Decides.{eqb_tells}
 use Rattle.std.proofs.lemmas.Fmt.{decimal_digit, decimal_step_wide}
 use Rattle.std.proofs.Math.Nat.{pow-le-pow_right}
 use Rattle.std.specs.Str.{all_ascii_digits}
 use Rattle.std.specs.Char.{is_ascii_digit}
-use Rattle.dbe_num.specs.Decimal.{Decimal, IsNormal, digit_count, zero_number}
-use Rattle.dbe_num.specs.Numeral.{without_front_zeros, without_end_zeros, significant, whole_number, whole_number_after}
-use Rattle.dbe_num.proofs.Digits.{without_front_zeros_other, without_end_zeros_past, without_end_zeros_within, whole_number_grows, whole_number_parts, whole_number_below, digit_range, first_is_digit, others_are_digits, front_digits, back_digits}
+use Rattle.dbe_num.specs.Decimal.{IsNormal, digit_count}
+use Rattle.dbe_num.specs.Numeral.{without_front_zeros, without_end_zeros, whole_number}
+use Rattle.dbe_num.proofs.Digits.{without_front_zeros_other, without_end_zeros_past, without_end_zeros_within, whole_number_grows, whole_number_parts, whole_number_below, digit_range, first_is_digit, others_are_digits, front_digits}
 
 -- ---- zeros taken away twice
 
@@ -16,7 +16,7 @@ pub without_front_zeros_twice : (cs : List ℕ) → without_front_zeros (without
 without_front_zeros_twice [] = refl
 without_front_zeros_twice (c ∷ cs) =
     elim (eqb_tells c 48) [
-      inl p ↦ rw p.0 (without_front_zeros_twice cs)
+      | inl p ↦ rw p.0 (without_front_zeros_twice cs)
       | inr p ↦ rw p.0 (without_front_zeros_other c cs p.1)
     ]
 
@@ -29,7 +29,7 @@ pub without_front_zeros_shorter : (cs : List ℕ) → length (without_front_zero
 without_front_zeros_shorter [] = omega arith
 without_front_zeros_shorter (c ∷ cs) =
     elim (eqb_tells c 48) [
-      inl p ↦ rw p.0 (omega (arith, without_front_zeros_shorter cs))
+      | inl p ↦ rw p.0 (omega (arith, without_front_zeros_shorter cs))
       | inr p ↦ rw p.0 (omega arith)
     ]
 
@@ -50,6 +50,7 @@ significant_front_other c cs h = go (length (without_end_zeros cs)) refl
   where
     alone : without_end_zeros (c ∷ []) ≡ c ∷ []
     alone = ap reverse (without_front_zeros_other c [] h)
+
     go : (n : ℕ) → length (without_end_zeros cs) ≡ n → without_end_zeros (c ∷ cs) ≡ c ∷ without_end_zeros cs
     go zero e = without_end_zeros_past (c ∷ []) cs e ∙ alone ∙ ap (λ xs. c ∷ xs) (sym (nil_from_length (without_end_zeros cs) e))
     go (suc n) e = without_end_zeros_within (c ∷ []) cs (omega arith)
@@ -76,7 +77,7 @@ pub digits_without_front : (cs : List ℕ) → all_ascii_digits cs ≡ true → 
 digits_without_front [] h = refl
 digits_without_front (c ∷ cs) h =
     elim (eqb_tells c 48) [
-      inl p ↦ rw p.0 (digits_without_front cs (others_are_digits c cs h))
+      | inl p ↦ rw p.0 (digits_without_front cs (others_are_digits c cs h))
       | inr p ↦ rw p.0 h
     ]
 

@@ -1,7 +1,7 @@
 -- The one text that a number is written as, this project's own: plain decimals without idle zeros.
-use Rattle.std.specs.Prelude.{ℕ, ◌+◌, ◌-◌, List, ◌++◌, length, take, drop, replicate, decimal, if◌then◌else◌, ◌==◌}
+use Rattle.std.specs.Prelude.{ℕ, ◌+◌, ◌-◌, List, [], ◌∷◌, ◌++◌, length, take, drop, replicate, decimal, if◌then◌else◌}
 use Rattle.dbe_num.specs.Decimal.{Decimal}
-use Rattle.dbe_num.specs.Numeral.{unmarked, minus, no_point, point, Numeral, numeral_text, no_power}
+use Rattle.dbe_num.specs.Numeral.{unmarked, minus, Fraction, no_point, point, Numeral, numeral_text, no_power}
 
 -- how many digits stand behind the point
 abbrev pub fraction_length : Decimal → ℕ
@@ -20,12 +20,17 @@ all_digits d =
 abbrev pub whole_length : Decimal → ℕ
 whole_length d = length (all_digits d) - fraction_length d
 
+-- a point and the digits after it, where there are any
+abbrev pub fraction_with : List ℕ → Fraction
+fraction_with [] = no_point
+fraction_with (c ∷ cs) = point (c ∷ cs)
+
 -- an optional -, the whole part, and a point with the digits after it, where there are any
 unfoldable pub normal_numeral : Decimal → Numeral
 normal_numeral d = record {
   sign = if d.negative then minus else unmarked;
   whole = take (whole_length d) (all_digits d);
-  fraction = if fraction_length d == 0 then no_point else point (drop (whole_length d) (all_digits d));
+  fraction = fraction_with (drop (whole_length d) (all_digits d));
   exponent = no_power;
 }
 

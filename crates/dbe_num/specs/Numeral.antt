@@ -105,7 +105,7 @@ number_of_significant negative [] raised lowered = Ok zero_number
 number_of_significant negative (c ∷ cs) raised lowered =
     if nat_lt 38 (length (c ∷ cs)) then Err TooManyDigits
     else if is_in_range (length (c ∷ cs)) raised lowered then
-      Ok (record { negative = negative; digits = whole_number (c ∷ cs); place = raised + 167 - lowered })
+    Ok (record { negative = negative; digits = whole_number (c ∷ cs); place = raised + 167 - lowered })
     else Err OutOfRange
 
 -- the number with these digits, of which the last one stands at raised - lowered

@@ -1,5 +1,5 @@
 -- The numeral that a text is, from left to right. `is_the_numeral` and `has_no_numeral` tie it to the grammar.
-use Rattle.std.specs.Prelude.{ℕ, ◌+◌, Bool, ◌&&◌, ◌||◌, List, [], ◌∷◌, length, Option, Some, None, Result, Err, if◌then◌else◌, ◌==◌, nat_lt, min, ◌^◌}
+use Rattle.std.specs.Prelude.{ℕ, ◌+◌, Bool, ◌&&◌, ◌||◌, List, [], ◌∷◌, length, Option, Some, None, Result, Err, if◌then◌else◌, ◌==◌, nat_lt}
 use Rattle.std.specs.Char.{is_ascii_digit}
 use Rattle.dbe_num.specs.Decimal.{Decimal}
 use Rattle.dbe_num.specs.Numeral.{Sign, unmarked, plus, minus, Fraction, no_point, point, fraction_digits, Power, no_power, power, Numeral, numeral_number}

@@ -5,6 +5,7 @@ mod bytes;
 mod memory;
 mod number;
 mod number_fault;
+mod number_laws;
 mod numeral;
 mod text;
 
@@ -12,4 +13,7 @@ pub use bytes::Bytes;
 pub use memory::Memory;
 pub use number::Number;
 pub use number_fault::NumberFault;
+pub use number_laws::{
+    number_grammar, number_read_again, number_read_is_normal, one_number_a_value,
+};
 pub use text::Text;

@@ -1,4 +1,4 @@
-use Rattle.std.proofs.Common.{◌≡◌, ◌++◌, true, List, ℕ, sym, ap, ◌∙◌, length, ◌≤◌, arith, length-append}
+use Rattle.std.proofs.Common.{◌≡◌, ◌++◌, true, List, ℕ, length, ◌≤◌, arith, length-append}
 use Rattle.std.specs.Str.{all_ascii_digits}
 use Rattle.dbe_num.specs.Numeral.{without_front_zeros, without_end_zeros}
 use Rattle.dbe_num.proofs.Significant.{digits_without_front, digits_without_end, significant_front, without_front_zeros_twice, without_end_zeros_twice, without_end_zeros_shorter}

@@ -1,5 +1,5 @@
-use Rattle.std.proofs.Common.{sym, ap, ◌∙◌, ◌≡◌, ℕ, ◌+◌, ◌*◌, ◌^◌, ◌≤◌, length, arith, [], ◌++◌}
-use Rattle.dbe_num.specs.Numeral.{whole_number, whole_number_after}
+use Rattle.std.proofs.Common.{sym, ap, ◌∙◌}
+use Rattle.dbe_num.specs.Numeral.{whole_number_after}
 use Rattle.dbe_num.proofs.Digits.{front_digits, back_digits, whole_number_parts, room_after, room_first}
 use Rattle.dbe_num.proofs.numeral.number_in.Goals as goal
 

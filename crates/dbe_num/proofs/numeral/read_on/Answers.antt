@@ -1,4 +1,4 @@
-use Rattle.std.proofs.Common.{◌∙◌, ◌^◌, ℕ, refl, arith, get_or, drop}
+use Rattle.std.proofs.Common.{◌∙◌, ◌^◌, refl, arith}
 use Rattle.std.proofs.lemmas.List.{drop_more}
 use Rattle.dbe_num.proofs.Digits.{number_step, digits_step, has_room}
 use Rattle.dbe_num.proofs.numeral.read_on.Goals as goal

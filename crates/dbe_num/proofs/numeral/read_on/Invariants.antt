@@ -1,4 +1,4 @@
-use Rattle.std.proofs.Common.{◌≡◌, ◌+◌, ◌-◌, ◌*◌, ◌^◌, ◌≤◌, length, drop, true}
+use Rattle.std.proofs.Common.{◌≡◌, ◌+◌, ◌*◌, ◌^◌, ◌≤◌, length, drop, true}
 use Rattle.std.specs.Str.{all_ascii_digits}
 use Rattle.dbe_num.specs.Numeral.{whole_number_after}
 use Rattle.dbe_num.proofs.numeral.read_on.Given as goal

@@ -1,4 +1,4 @@
-use Rattle.std.proofs.Common.{◌≡◌, ℕ, ◌++◌, ◌+◌, ◌<◌, ◌^◌, length, arith, length-append}
+use Rattle.std.proofs.Common.{arith, length-append}
 use Rattle.dbe_num.proofs.Parsed.{read_digits, read_missing, read_empty, read_found}
 use Rattle.dbe_num.proofs.number.Number.parse.Goals as goal
 
