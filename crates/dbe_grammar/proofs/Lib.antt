@@ -1,0 +1,13 @@
+pub mod Unique
+pub mod Views
+pub mod Places
+pub mod Arguments
+pub mod AfterOperand
+pub mod Factors
+pub mod Chains
+pub mod Whole
+pub mod Lawful
+pub mod PrintedForms
+pub mod Appending
+pub mod MovedTrees
+pub mod LeavesOfTokens
