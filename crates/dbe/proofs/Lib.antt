@@ -1,8 +1,4 @@
-pub mod Entries
-pub mod Tables
 pub mod Results
-pub mod Walks
-pub mod Floats
 pub mod ReadSoFar
 pub mod Halted
 pub mod Progress

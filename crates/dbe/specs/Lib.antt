@@ -1,12 +1,6 @@
-pub mod Entries
-pub mod Setting
-pub mod Rows
-pub mod Memory
-pub mod Requests
-pub mod Texts
+pub mod Served
 pub mod Maps
 pub mod Run
-pub mod Steps
 pub mod Stops
 pub mod Turns
 pub mod Rules

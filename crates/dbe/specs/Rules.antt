@@ -1,10 +1,10 @@
 -- What is within the rules of a run, and when the configuration is refused.
 use Rattle.std.specs.Prelude.{◌≡◌, ◌≢◌, ◌⊎◌, ◌<◌, ◌≤◌, ℕ, List, ◌++◌, length, Some, Err, IsOk}
 use Rattle.std.specs.declared.option.Option.{Option}
-use Rattle.dbe.specs.Setting.{configured}
+use Rattle.dbe.specs.Served.{configured}
 use Rattle.dbe.specs.Stops.{HasLongLine}
-use Rattle.dbe.specs.declared.config.ConfigFault.{ConfigFault}
-use Rattle.dbe.specs.declared.config.ConfigFault.TheVariants as f
+use Rattle.dbe_config.specs.declared.fault.ConfigFault.{ConfigFault}
+use Rattle.dbe_config.specs.declared.fault.ConfigFault.TheVariants as f
 use Rattle.dbe.specs.declared.status.Status.{Status}
 use Rattle.dbe.specs.declared.status.Status.TheVariants as s
 

@@ -3,19 +3,27 @@ use Rattle.std.specs.Prelude.{◌≡◌, ◌≢◌, ◌⊎◌, ◌<◌, ◌≤�
 use Rattle.std.specs.declared.option.Option.{Option}
 use Rattle.std.specs.List.{All, flat_map}
 use Rattle.std.specs.Io.KnownBytes.{Appends}
-use Rattle.dbe_texts.specs.declared.value.AttrValue.{AttrValue}
+use Rattle.dbe_table.specs.Rows.{Row}
+use Rattle.dbe_config.specs.Setting.{Setting}
 use Rattle.dbe_io.specs.Lines.{lines_of, ended_lines, IsTooLong, IsTooMuch}
-use Rattle.dbe.specs.Setting.{Setting}
 use Rattle.dbe.specs.Maps.{Items, After, Stands, after_line}
-use Rattle.dbe.specs.Texts.{put_text}
-use Rattle.dbe.specs.Run.{State, Turn, reply_in, run, lines_in, replies_in, World, IsSettingOf, AreAnswers}
+use Rattle.dbe_session.specs.Texts.{put_text}
+use Rattle.dbe_session.specs.Reply.{State, Turn, IsTurn, reply_to, run, lines_in, replies_in}
+use Rattle.dbe.specs.Run.{World, IsSettingOf, AreAnswers}
 use Rattle.dbe.specs.declared.status.Status.{Status}
 use Rattle.dbe.specs.declared.status.Status.TheVariants as s
 
+-- the rows are those after a line
+pub record IsAfter (c : Setting) (s : State) (line : List ℕ) (rows : Option (List Row)) : Type 0 where
+  pub turn : Turn
+  pub is_line : turn.line ≡ line
+  pub is_turn : IsTurn c turn
+  pub are_rows : rows ≡ Some (reply_to c s turn).state.rows
+
 -- the rows are those of the state, or those after the first of the lines to come
-abbrev pub AreRowsBefore : Setting → State → List (List ℕ) → Option (List (List (List ℕ × AttrValue))) → Type 0
+abbrev pub AreRowsBefore : Setting → State → List (List ℕ) → Option (List Row) → Type 0
 AreRowsBefore c s [] rows = rows ≡ Some s.rows
-AreRowsBefore c s (line ∷ lines) rows = (rows ≡ Some s.rows) ⊎ (rows ≡ Some (reply_in c s line).state.rows)
+AreRowsBefore c s (line ∷ lines) rows = (rows ≡ Some s.rows) ⊎ IsAfter c s line rows
 
 -- The lines are those that end within the bytes taken. A last line ends where the script does.
 abbrev pub AreEndedIn : List (List ℕ) → List ℕ → List ℕ → Type 0
@@ -41,10 +49,18 @@ StopsFor s.Write lines front rest left = Unit {0}
 StopsFor s.Table lines front rest left = Unit {0}
 StopsFor s.Memory lines front rest left = Unit {0}
 
--- A front of the reply to the first of the lines to come. After the last line there is none.
+-- a front of the reply to a line
+pub record IsFrontOf (c : Setting) (s : State) (line piece : List ℕ) : Type 0 where
+  pub turn : Turn
+  pub is_line : turn.line ≡ line
+  pub is_turn : IsTurn c turn
+  pub more : List ℕ
+  pub is_front : piece ++ more ≡ (reply_to c s turn).text
+
+-- Nothing, or a front of the reply to the first of the lines to come. After the last line there is none.
 abbrev pub IsPieceOf : Setting → State → List (List ℕ) → List ℕ → Type 0
 IsPieceOf c s [] piece = piece ≡ []
-IsPieceOf c s (line ∷ lines) piece = (more : List ℕ) × (piece ++ more ≡ (reply_in c s line).text)
+IsPieceOf c s (line ∷ lines) piece = (piece ≡ []) ⊎ IsFrontOf c s line piece
 
 -- The lines up to some line got their replies. Of the next reply a front was written, which is empty but for a failed write.
 pub record StoppedAt (c : Setting) (status : Status) (before after : World) (start : State) (bytes : List ℕ) (turns : List Turn) : Type 0 where
@@ -52,6 +68,7 @@ pub record StoppedAt (c : Setting) (status : Status) (before after : World) (sta
   pub rest : List ℕ  -- the script from there on
   pub left : List ℕ  -- what the script still tells
   pub whole : bytes ≡ front ++ rest
+  pub are_turns : All (IsTurn c) turns
   pub is_left : after.script ≡ Some left
   pub lines : lines_of bytes ≡ lines_in turns ++ lines_of rest
   pub stops : StopsFor status (lines_in turns) front rest left
@@ -71,7 +88,7 @@ abbrev pub Stopped : Status → World → World → Type 0
 Stopped status before after = (c : Setting) × IsSettingOf before after c × StoppedWith c status before after
 
 -- the rows stand for the map that the lines left, or for that with the next line's item put
-abbrev pub StandsBefore : Setting → Items → List (List ℕ) → Option (List (List (List ℕ × AttrValue))) → Type 0
+abbrev pub StandsBefore : Setting → Items → List (List ℕ) → Option (List Row) → Type 0
 StandsBefore c m [] rows = (told : Items) × (rows ≡ Some told) × Stands c told m
 StandsBefore c m (line ∷ lines) rows = (told : Items) × (rows ≡ Some told) × (Stands c told m ⊎ Stands c told (after_line c m line put_text))
 

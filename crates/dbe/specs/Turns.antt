@@ -1,25 +1,28 @@
 -- What one line does to the rows and to what is written.
-use Rattle.std.specs.Prelude.{◌≡◌, ◌≢◌, ◌++◌, [], ℕ, List, Some}
+use Rattle.std.specs.Prelude.{◌≡◌, ◌≢◌, ◌⊎◌, [], ℕ, List, Some}
 use Rattle.std.specs.declared.option.Option.{Option}
 use Rattle.std.specs.Io.KnownBytes.{Appends}
-use Rattle.dbe_texts.specs.declared.value.AttrValue.{AttrValue}
-use Rattle.dbe.specs.Setting.{Setting}
-use Rattle.dbe.specs.Run.{State, reply_in}
-use Rattle.dbe.specs.Steps.{AreRowsAt}
+use Rattle.dbe_config.specs.Setting.{Setting}
+use Rattle.dbe_table.specs.Rows.{Row, risen}
+use Rattle.dbe_session.specs.Reply.{State, Turn, IsTurn, reply_to}
+use Rattle.dbe.specs.Stops.{IsAfter, IsFrontOf}
 use Rattle.dbe.specs.declared.status.Status.{Status}
 use Rattle.dbe.specs.declared.status.Status.TheVariants as s
 
 -- a line got its reply
-pub record Turned (c : Setting) (state : State) (line : List ℕ) (rows : Option (List (List (List ℕ × AttrValue)))) (old new : Option (List ℕ)) : Type 0 where
-  pub are_rows : rows ≡ Some (reply_in c state line).state.rows
-  pub written : Appends old new (reply_in c state line).text
+pub record Turned (c : Setting) (state : State) (line : List ℕ) (rows : Option (List Row)) (given_before given_after : ℕ) (old new : Option (List ℕ)) : Type 0 where
+  pub turn : Turn
+  pub is_line : turn.line ≡ line
+  pub is_turn : IsTurn c turn
+  pub are_rows : rows ≡ Some (reply_to c state turn).state.rows
+  pub given : given_after ≡ risen given_before (reply_to c state turn).given
+  pub written : Appends old new (reply_to c state turn).text
 
 -- a line got no reply, or a front of it
-pub record TurnedDown (c : Setting) (status : Status) (state : State) (line : List ℕ) (rows : Option (List (List (List ℕ × AttrValue)))) (old new : Option (List ℕ)) : Type 0 where
-  pub are_rows : AreRowsAt c state line rows
+pub record TurnedDown (c : Setting) (status : Status) (state : State) (line : List ℕ) (rows : Option (List Row)) (old new : Option (List ℕ)) : Type 0 where
+  pub are_rows : (rows ≡ Some state.rows) ⊎ IsAfter c state line rows
   pub piece : List ℕ
-  pub more : List ℕ
-  pub is_piece : piece ++ more ≡ (reply_in c state line).text
+  pub is_piece : (piece ≡ []) ⊎ IsFrontOf c state line piece
   pub only_write : status ≢ s.Write → piece ≡ []
   pub written : Appends old new piece
 

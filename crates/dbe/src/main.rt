@@ -1,29 +1,19 @@
 //! Serves a script of requests over a DynamoDB table of items, by a configuration.
 #![tactic(auto)]
 
-mod config;
 pub mod laws;
-mod mem_table;
-mod request;
 mod status;
-mod steps;
-mod table;
 #[cfg(test)]
 mod tests;
-mod texts;
 mod top;
 
-pub use config::{Action, Config, ConfigFault};
 use dbe_io::{FileSource, StdSink, StdSource};
-pub use mem_table::MemTable;
-pub use request::{Request, read_request};
+use dbe_table::MemTable;
 pub use status::Status;
 use std::env;
 use std::io::ErrorKind;
 use std::process::ExitCode;
 use std::rt::Runtime;
-pub use steps::{StepFault, step};
-pub use table::{Table, TableFault};
 pub use top::serve;
 
 /// Serves the script on standard input by the configuration in `dbe.json`, and writes the replies to

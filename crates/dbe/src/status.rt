@@ -1,7 +1,7 @@
 ghost use Rattle.std.specs.Prelude.{◌≡◌};
 ghost use Rattle.dbe.specs.Codes.{code_of};
 
-use crate::ConfigFault;
+use dbe_config::ConfigFault;
 use std::fmt;
 
 /// How a run ends.

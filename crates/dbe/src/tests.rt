@@ -1,5 +1,7 @@
-use crate::{ConfigFault, MemTable, Status, serve};
+use crate::{Status, serve};
+use dbe_config::ConfigFault;
 use dbe_io::{MemSink, MemSource};
+use dbe_table::MemTable;
 use std::alloc::Global;
 use std::process::Abort;
 use std::test::Fail;
@@ -45,9 +47,7 @@ fn run(
     status: Status,
     written: &str,
 ) -> Result<(), Fail> {
-    if plan.most_read == 0 {
-        return Ok(());
-    }
+    assert!(rt; plan.most_read > 0);
     let mut config = MemSource::new(
         plan.config.as_bytes().to_vec(alloc)?,
         plan.config_fails.to_vec(alloc)?,
@@ -115,20 +115,17 @@ fn items_are_in_key_order_and_a_put_replaces(rt: HostRuntime) -> Result<(), Fail
     let script = b"{\"put\":{\"id\":{\"S\":\"b\"},\"state\":{\"S\":\"WA\"}}}
 {\"put\":{\"id\":{\"S\":\"a\"},\"state\":{\"S\":\"WA\"}}}
 {\"put\":{\"id\":{\"S\":\"B\"},\"state\":{\"S\":\"WA\"}}}
-{\"query\":{\"condition\":\"state=:v\",\"values\":{\":v\":{\"S\":\"WA\"}}}}
 {\"put\":{\"id\":{\"S\":\"a\"},\"state\":{\"S\":\"OR\"}}}
-{\"query\":{\"condition\":\"state = :v\",\"values\":{\":v\":{\"S\":\"OR\"}}}}
+{\"query\":{\"condition\":\"attribute_exists(id)\"}}
 ";
     let written = "{\"ok\":\"put\"}
 {\"ok\":\"put\"}
 {\"ok\":\"put\"}
+{\"ok\":\"put\"}
 {\"item\":{\"id\":{\"S\":\"B\"},\"state\":{\"S\":\"WA\"}}}
-{\"item\":{\"id\":{\"S\":\"a\"},\"state\":{\"S\":\"WA\"}}}
+{\"item\":{\"id\":{\"S\":\"a\"},\"state\":{\"S\":\"OR\"}}}
 {\"item\":{\"id\":{\"S\":\"b\"},\"state\":{\"S\":\"WA\"}}}
 {\"count\":3,\"scanned\":3}
-{\"ok\":\"put\"}
-{\"item\":{\"id\":{\"S\":\"a\"},\"state\":{\"S\":\"OR\"}}}
-{\"count\":1,\"scanned\":1}
 ";
     run(
         &rt,
@@ -145,30 +142,52 @@ fn lines_that_are_refused_change_nothing(rt: HostRuntime) -> Result<(), Fail> {
  
 \xff
 {\"drop\":1}
+{\"put\":5}
 {\"put\":{\"state\":{\"S\":\"WA\"}}}
 {\"put\":{\"id\":{\"S\":\"\"}}}
 {\"put\":{\"id\":{\"S\":\"a\"},\"zip\":{\"S\":\"1\"}}}
-{\"put\":{\"id\":{\"S\":\"a\"},\"state\":{\"N\":\"1\"}}}
-{\"query\":{\"condition\":\"NOT state = :v\",\"values\":{\":v\":{\"S\":\"WA\"}}}}
-{\"query\":{\"condition\":\"in = :v\",\"values\":{\":v\":{\"S\":\"WA\"}}}}
+{\"put\":{\"id\":{\"S\":\"a\"},\"aws_dbe_x\":{\"S\":\"1\"}}}
+{\"put\":{\"id\":{\"S\":\"a\"},\"state\":{\"N\":\"1E126\"}}}
+{\"get\":{\"id\":{\"S\":\"a\"}}}
+{\"get\":{\"id\":{\"S\":\"a\"},\"state\":{\"S\":\"WA\"}}}
+{\"get\":{\"id\":{\"N\":\"1\"}}}
+{\"check\":{\"id\":{\"S\":\"a\"}}}
+{\"create\":\"main\"}
+{\"create\":\"no id\"}
+{\"query\":{\"condition\":\"state = \",\"values\":{\":v\":{\"S\":\"WA\"}}}}
+{\"query\":{\"condition\":\"state ! :v\",\"values\":{\":v\":{\"S\":\"WA\"}}}}
 {\"query\":{\"condition\":\"state = :w\",\"values\":{\":v\":{\"S\":\"WA\"}}}}
+{\"query\":{\"condition\":\"#s = :v\",\"values\":{\":v\":{\"S\":\"WA\"}}}}
 {\"query\":{\"condition\":\"aws_dbe_x = :v\",\"values\":{\":v\":{\"S\":\"WA\"}}}}
-{\"query\":{\"condition\":\"id = :v\",\"values\":{\":v\":{\"S\":\"a\"},\":w\":{\"S\":\"\"}}}}
+{\"query\":{\"condition\":\"id = :v\",\"values\":{\"v\":{\"S\":\"a\"}}}}
+{\"query\":{\"condition\":\"id = :v\",\"names\":{\"#n\":\"\"},\"values\":{\":v\":{\"S\":5}}}}
+{\"query\":{\"condition\":\"id = :v\",\"values\":{\":v\":{\"S\":5}}}}
 {\"put\":{\"id\":{\"S\":\"a\"}},\"put\":{\"id\":{\"S\":\"b\"}}}
-{\"query\":{\"condition\":\"id = :v\",\"values\":{\":v\":{\"S\":\"b\"}}}}";
+{\"query\":{\"condition\":\"attribute_exists(id)\"}}";
     let written = "{\"refused\":\"json\"}
 {\"refused\":\"json\"}
 {\"refused\":\"json\"}
+{\"refused\":\"shape\"}
+{\"refused\":\"shape\"}
+{\"name\":\"id\",\"refused\":\"key\"}
+{\"name\":\"id\",\"refused\":\"key\"}
+{\"name\":\"zip\",\"refused\":\"attribute\"}
+{\"name\":\"aws_dbe_x\",\"refused\":\"reserved\"}
+{\"name\":\"state\",\"refused\":\"value\",\"why\":\"BadNumber\"}
+{\"none\":true}
+{\"refused\":\"shape\"}
+{\"name\":\"id\",\"refused\":\"key\"}
+{\"none\":true}
 {\"refused\":\"not built\"}
-{\"refused\":\"not built\"}
-{\"refused\":\"not built\"}
-{\"refused\":\"not built\"}
-{\"refused\":\"not built\"}
-{\"refused\":\"not built\"}
-{\"refused\":\"not built\"}
-{\"refused\":\"not built\"}
-{\"refused\":\"not built\"}
-{\"count\":0,\"scanned\":0}
+{\"refused\":\"shape\"}
+{\"at\":8,\"refused\":\"condition\",\"why\":\"Syntax\"}
+{\"at\":6,\"refused\":\"condition\",\"why\":\"BadToken\"}
+{\"name\":\":w\",\"refused\":\"condition\",\"why\":\"UnknownValue\"}
+{\"name\":\"#s\",\"refused\":\"condition\",\"why\":\"UnknownName\"}
+{\"name\":\"aws_dbe_x\",\"refused\":\"rewriting\",\"why\":\"NotSearchable\"}
+{\"refused\":\"shape\"}
+{\"name\":\"#n\",\"refused\":\"value\",\"why\":\"BadName\"}
+{\"name\":\":v\",\"refused\":\"value\",\"why\":\"Shape\"}
 {\"ok\":\"put\"}
 {\"item\":{\"id\":{\"S\":\"b\"}}}
 {\"count\":1,\"scanned\":1}
@@ -182,35 +201,225 @@ fn lines_that_are_refused_change_nothing(rt: HostRuntime) -> Result<(), Fail> {
     )
 }
 
+const SORTED: &str =
+    "{\"table\":\"t\",\"partition\":{\"name\":\"id\",\"type\":\"N\"},\"sort\":{\"name\":\"at\",\"type\":\"B\"},\"actions\":{\"age\":\"ENCRYPT_AND_SIGN\",\"tags\":\"SIGN_ONLY\"},\"recipients\":[]}";
+
+#[test]
+fn keys_are_numbers_and_binaries_too(rt: HostRuntime) -> Result<(), Fail> {
+    let script = b"{\"put\":{\"id\":{\"N\":\"10\"},\"at\":{\"B\":\"AA==\"},\"age\":{\"N\":\"1.0\"}}}
+{\"put\":{\"id\":{\"N\":\"2\"},\"at\":{\"B\":\"/w==\"},\"tags\":{\"NS\":[\"10\",\"2\",\"-1\"]}}}
+{\"put\":{\"id\":{\"N\":\"2\"},\"at\":{\"B\":\"AQ==\"}}}
+{\"put\":{\"id\":{\"N\":\"1E1\"},\"at\":{\"B\":\"AA==\"},\"age\":{\"N\":\"0.50\"}}}
+{\"put\":{\"id\":{\"N\":\"2\"}}}
+{\"query\":{\"condition\":\"NOT age < :n AND id BETWEEN :n AND :m\",\"values\":{\":n\":{\"N\":\"1\"},\":m\":{\"N\":\"10.0\"}}}}
+{\"get\":{\"id\":{\"N\":\"10\"},\"at\":{\"B\":\"AA==\"}}}
+{\"check\":{\"id\":{\"N\":\"2.0\"},\"at\":{\"B\":\"AQ==\"}}}
+";
+    let written = "{\"ok\":\"put\"}
+{\"ok\":\"put\"}
+{\"ok\":\"put\"}
+{\"ok\":\"put\"}
+{\"name\":\"at\",\"refused\":\"key\"}
+{\"item\":{\"at\":{\"B\":\"AQ==\"},\"id\":{\"N\":\"2\"}}}
+{\"item\":{\"at\":{\"B\":\"/w==\"},\"id\":{\"N\":\"2\"},\"tags\":{\"NS\":[\"-1\",\"10\",\"2\"]}}}
+{\"count\":2,\"scanned\":2}
+{\"item\":{\"age\":{\"N\":\"0.5\"},\"at\":{\"B\":\"AA==\"},\"id\":{\"N\":\"10\"}}}
+{\"checked\":{\"beacons\":true,\"encrypted\":0,\"recipient\":null,\"signed\":0}}
+";
+    run(
+        &rt,
+        rt.alloc(),
+        &plan_of(SORTED, script),
+        Status::Done,
+        written,
+    )
+}
+
+const AGES: &str =
+    "{\"table\":\"t\",\"partition\":{\"name\":\"id\",\"type\":\"S\"},\"actions\":{\"age\":\"SIGN_ONLY\",\"state\":\"ENCRYPT_AND_SIGN\"},\"recipients\":[],\"unsigned_prefix\":\":\"}";
+
+const BY_TIME: &str =
+    "{\"table\":\"t\",\"partition\":{\"name\":\"id\",\"type\":\"S\"},\"sort\":{\"name\":\"at\",\"type\":\"N\"},\"actions\":{},\"recipients\":[]}";
+
+/// Runs a script that is done, and asserts what it wrote.
+fn answers(
+    rt: &impl Abort,
+    alloc: Global,
+    config: &str,
+    script: &str,
+    written: &str,
+) -> Result<(), Fail> {
+    run(
+        rt,
+        alloc,
+        &plan_of(config, script.as_bytes()),
+        Status::Done,
+        written,
+    )
+}
+
+#[test]
+fn numbers_of_one_value_are_equal(rt: HostRuntime) -> Result<(), Fail> {
+    answers(
+        &rt,
+        rt.alloc(),
+        AGES,
+        "{\"put\":{\"id\":{\"S\":\"a\"},\"age\":{\"N\":\"1.0\"}}}
+{\"query\":{\"condition\":\"age = :v\",\"values\":{\":v\":{\"N\":\"1E0\"}}}}
+{\"put\":{\"id\":{\"S\":\"a\"},\"age\":{\"N\":\"1E126\"}}}",
+        "{\"ok\":\"put\"}
+{\"item\":{\"age\":{\"N\":\"1\"},\"id\":{\"S\":\"a\"}}}
+{\"count\":1,\"scanned\":1}
+{\"name\":\"age\",\"refused\":\"value\",\"why\":\"BadNumber\"}
+",
+    )
+}
+
+#[test]
+fn conditions_are_refused_with_their_reason(rt: HostRuntime) -> Result<(), Fail> {
+    answers(
+        &rt,
+        rt.alloc(),
+        AGES,
+        "{\"query\":{\"condition\":\"state = \"}}
+{\"query\":{\"condition\":\"state ! :v\"}}
+{\"query\":{\"condition\":\"state = :w\"}}
+{\"query\":{\"condition\":\"#n = state\",\"names\":{\"#m\":\"state\"}}}
+{\"query\":{\"condition\":\"((((((((((((((((((((((((((((((((((((((((((((((((((((((((((((((((((\"}}
+{\"query\":{\"condition\":\"NOT attribute_exists(#n) OR aws_dbe_x = state\",\"names\":{\"#n\":\"aws_dbe_head\"}}}",
+        "{\"at\":8,\"refused\":\"condition\",\"why\":\"Syntax\"}
+{\"at\":6,\"refused\":\"condition\",\"why\":\"BadToken\"}
+{\"name\":\":w\",\"refused\":\"condition\",\"why\":\"UnknownValue\"}
+{\"name\":\"#n\",\"refused\":\"condition\",\"why\":\"UnknownName\"}
+{\"refused\":\"condition\",\"why\":\"TooDeep\"}
+{\"name\":\"aws_dbe_head\",\"refused\":\"rewriting\",\"why\":\"NotSearchable\"}
+",
+    )
+}
+
+#[test]
+fn requests_have_a_form(rt: HostRuntime) -> Result<(), Fail> {
+    answers(
+        &rt,
+        rt.alloc(),
+        BY_TIME,
+        "{}
+[]
+{\"put\":{},\"get\":{}}
+{\"put\":[]}
+{\"get\":{\"id\":{\"S\":\"a\"}}}
+{\"get\":{\"id\":{\"S\":\"a\"},\"at\":{\"N\":\"1\"},\"x\":{\"S\":\"\"}}}
+{\"get\":{\"id\":{\"S\":\"a\"},\"at\":{\"N\":\"x\"}}}
+{\"get\":{\"id\":{\"S\":\"a\"},\"at\":{\"S\":\"1\"}}}
+{\"query\":{}}
+{\"query\":{\"condition\":5}}
+{\"query\":{\"condition\":\"id = id\",\"page\":1}}
+{\"query\":{\"condition\":\"id = id\",\"names\":null}}
+{\"query\":{\"condition\":\"id = id\",\"names\":{\"n\":\"id\"}}}
+{\"query\":{\"condition\":\"id = id\",\"names\":{\"#\":\"id\"}}}
+{\"query\":{\"condition\":\"id = id\",\"names\":{\"#n\":5}}}
+{\"query\":{\"condition\":\"id = id\",\"values\":{\"#v\":{\"S\":\"\"}}}}
+{\"query\":{\"condition\":\"id = id\",\"values\":{\":v\":{\"S\":\"\"}},\"names\":{}}}
+{\"explain\":{\"condition\":\"id = id\"}}
+{\"explain\":{}}
+{\"rotate\":\"main\"}
+{\"rotate\":\"\"}
+{\"rotate\":5}",
+        "{\"refused\":\"shape\"}
+{\"refused\":\"shape\"}
+{\"refused\":\"shape\"}
+{\"refused\":\"shape\"}
+{\"refused\":\"shape\"}
+{\"refused\":\"shape\"}
+{\"name\":\"at\",\"refused\":\"value\",\"why\":\"BadNumber\"}
+{\"name\":\"at\",\"refused\":\"key\"}
+{\"refused\":\"shape\"}
+{\"refused\":\"shape\"}
+{\"refused\":\"shape\"}
+{\"refused\":\"shape\"}
+{\"refused\":\"shape\"}
+{\"refused\":\"shape\"}
+{\"refused\":\"shape\"}
+{\"refused\":\"shape\"}
+{\"count\":0,\"scanned\":0}
+{\"refused\":\"not built\"}
+{\"refused\":\"shape\"}
+{\"refused\":\"not built\"}
+{\"refused\":\"shape\"}
+{\"refused\":\"shape\"}
+",
+    )
+}
+
+#[test]
+fn faults_of_a_query_have_an_order(rt: HostRuntime) -> Result<(), Fail> {
+    answers(
+        &rt,
+        rt.alloc(),
+        AGES,
+        "{\"query\":{\"condition\":\"(\",\"names\":{\"#b\":\"\",\"#a\":\"x\"},\"values\":{\":a\":{\"S\":5}}}}
+{\"query\":{\"condition\":\"(\",\"names\":{\"#a\":\"x\"},\"values\":{\":b\":{\"S\":5},\":a\":{\"NS\":[]}}}}
+{\"query\":{\"condition\":\"(\",\"names\":{\"#a\":\"x\"},\"values\":{\":b\":{\"S\":\"\"},\":a\":{\"NS\":[\"1\"]}}}}",
+        "{\"name\":\"#b\",\"refused\":\"value\",\"why\":\"BadName\"}
+{\"name\":\":a\",\"refused\":\"value\",\"why\":\"EmptySet\"}
+{\"at\":1,\"refused\":\"condition\",\"why\":\"Syntax\"}
+",
+    )
+}
+
+#[test]
+fn puts_are_refused_in_an_order(rt: HostRuntime) -> Result<(), Fail> {
+    answers(
+        &rt,
+        rt.alloc(),
+        AGES,
+        "{\"put\":{\"aws_dbe_x\":{\"S\":\"\"},\"zip\":{\"S\":\"\"}}}
+{\"put\":{\"id\":{\"S\":\"a\"},\"aws_dbe_x\":{\"S\":\"\"},\"zip\":{\"S\":\"\"}}}
+{\"put\":{\"id\":{\"S\":\"a\"},\"zip\":{\"S\":\"\"},\"zap\":{\"S\":\"\"}}}
+{\"put\":{\"id\":{\"S\":\"a\"},\":note\":{\"S\":\"\"},\"state\":{\"NULL\":true}}}
+{\"get\":{\"id\":{\"S\":\"a\"}}}
+{\"check\":{\"id\":{\"S\":\"a\"}}}
+{\"check\":{\"id\":{\"S\":\"b\"}}}",
+        "{\"name\":\"id\",\"refused\":\"key\"}
+{\"name\":\"aws_dbe_x\",\"refused\":\"reserved\"}
+{\"name\":\"zap\",\"refused\":\"attribute\"}
+{\"ok\":\"put\"}
+{\"item\":{\":note\":{\"S\":\"\"},\"id\":{\"S\":\"a\"},\"state\":{\"NULL\":true}}}
+{\"checked\":{\"beacons\":true,\"encrypted\":0,\"recipient\":null,\"signed\":0}}
+{\"none\":true}
+",
+    )
+}
+
 #[test]
 fn configurations_are_refused(rt: HostRuntime) -> Result<(), Fail> {
     let cases = [
         ("", ConfigFault::NotJson),
         ("{", ConfigFault::NotJson),
-        ("[]", ConfigFault::NotBuilt),
+        ("[]", ConfigFault::Shape),
         (
             "{\"table\":\"\",\"partition\":{\"name\":\"id\",\"type\":\"S\"},\"actions\":{},\"recipients\":[]}",
-            ConfigFault::NotBuilt,
-        ),
-        (
-            "{\"table\":\"t\",\"partition\":{\"name\":\"id\",\"type\":\"N\"},\"actions\":{},\"recipients\":[]}",
-            ConfigFault::NotBuilt,
+            ConfigFault::Shape,
         ),
         (
             "{\"table\":\"t\",\"partition\":{\"name\":\"id\",\"type\":\"S\"},\"actions\":{\"id\":\"DO_NOTHING\"},\"recipients\":[]}",
-            ConfigFault::NotBuilt,
+            ConfigFault::KeyAction,
         ),
         (
             "{\"table\":\"t\",\"partition\":{\"name\":\"id\",\"type\":\"S\"},\"actions\":{\"aws_dbe_x\":\"SIGN_ONLY\"},\"recipients\":[]}",
+            ConfigFault::ReservedName,
+        ),
+        (
+            "{\"table\":\"t\",\"partition\":{\"name\":\"id\",\"type\":\"S\"},\"actions\":{},\"recipients\":[{\"kind\":\"branch\",\"branch\":\"main\"}]}",
             ConfigFault::NotBuilt,
         ),
         (
-            "{\"table\":\"t\",\"partition\":{\"name\":\"id\",\"type\":\"S\"},\"actions\":{},\"recipients\":[1]}",
+            "{\"table\":\"t\",\"partition\":{\"name\":\"id\",\"type\":\"S\"},\"actions\":{},\"recipients\":[],\"virtual\":[{\"name\":\"v\",\"parts\":[{\"from\":\"id\",\"steps\":[]}]}]}",
             ConfigFault::NotBuilt,
         ),
         (
             "{\"table\":\"t\",\"partition\":{\"name\":\"id\",\"type\":\"S\"},\"actions\":{},\"recipients\":[],\"sort\":null}",
-            ConfigFault::NotBuilt,
+            ConfigFault::Shape,
         ),
     ];
     for (config, fault) in cases {
@@ -230,6 +439,21 @@ fn configurations_are_refused(rt: HostRuntime) -> Result<(), Fail> {
         &plan_of(listed, PUTS),
         Status::Done,
         REPLIES,
+    )
+}
+
+// The source fails where the second line would be read: the reply to the first one stands written.
+#[test]
+fn a_reply_is_written_before_the_next_line_is_read(rt: HostRuntime) -> Result<(), Fail> {
+    let mut failing = plan_of(PLAIN, PUTS);
+    failing.most_read = 44;
+    failing.script_fails = &[2];
+    run(
+        &rt,
+        rt.alloc(),
+        &failing,
+        Status::Read,
+        "{\"ok\":\"put\"}\n",
     )
 }
 

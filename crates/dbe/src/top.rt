@@ -1,18 +1,21 @@
 ghost use Rattle.std.specs.Prelude.{◌≡◌, ◌≢◌, ◌↔◌, ◌⊎◌, ◌<◌, ◌≤◌, ℕ, List, true, Some, None, Ok, Err, IfOk, IfErr, OnOk, IsSome, length};
 ghost use Rattle.std.specs.Io.KnownBytes.{IsAtEnd, Consumes};
-ghost use Rattle.dbe_texts.specs.declared.value.AttrValue.{AttrValue};
 ghost use Rattle.std.specs.List.{All};
 ghost use Rattle.dbe_io.specs.Causes.{Rose};
 ghost use Rattle.dbe_io.specs.Lines.{lines_of};
-ghost use Rattle.dbe.specs.Run.{State, Ran, RanWith, Headline, World};
-ghost use Rattle.dbe.specs.Setting.{configured};
+ghost use Rattle.dbe_session.specs.Reply.{State};
+ghost use Rattle.dbe.specs.Run.{Ran, RanWith, Headline, World};
+ghost use Rattle.dbe.specs.Served.{configured, is_built};
 ghost use Rattle.dbe.specs.Rules.{IsRefused, IsOfConfig, IsOfReading, IsFrontOf, IsWithinRules};
-ghost use Rattle.dbe.specs.declared.config.ConfigFault.{ConfigFault as the_fault};
+ghost use Rattle.dbe_config.specs.declared.fault.ConfigFault.{ConfigFault as the_fault};
 ghost use Rattle.dbe.specs.Stops.{Stopped, StoppedWith, Kept, HasLongLine};
 ghost use Rattle.dbe.specs.Turns.{Turned, TurnedDown, IsOfReply};
 
-use crate::{Config, ConfigFault, Status, StepFault, Table, TableFault, step};
+use crate::Status;
+use dbe_config::{Config, ConfigFault};
 use dbe_io::{LineFault, LineReader, Sink, Source, write_all};
+use dbe_session::{Session, StepFault};
+use dbe_table::{Table, TableFault};
 use std::alloc::Global;
 
 const BLOCK_BYTES: usize = 65_536;
@@ -39,24 +42,24 @@ pub fn serve<C: Source, S: Source, O: Sink, T: Table>(
 
     // Each query prints exactly the items of which its condition is true, in key order.
     ensures headline { result ≡ Status.Done → Headline
-        (record { config = C.left config.old; script = S.left script.old; coming = T.coming table.old; begun = T.begun table.old; rows = T.rows table.old; written = O.written out.old })
-        (record { config = C.left config.new; script = S.left script.new; coming = T.coming table.new; begun = T.begun table.new; rows = T.rows table.new; written = O.written out.new }) }
+        (record { config = C.left config.old; script = S.left script.old; coming = T.coming table.old; begun = T.begun table.old; rows = T.rows table.old; given = T.given table.old; written = O.written out.old })
+        (record { config = C.left config.new; script = S.left script.new; coming = T.coming table.new; begun = T.begun table.new; rows = T.rows table.new; given = T.given table.new; written = O.written out.new }) }
 
     // What is written is the replies to the lines, and the rows are those after them.
     ensures done { result ≡ Status.Done → Ran
-        (record { config = C.left config.old; script = S.left script.old; coming = T.coming table.old; begun = T.begun table.old; rows = T.rows table.old; written = O.written out.old })
-        (record { config = C.left config.new; script = S.left script.new; coming = T.coming table.new; begun = T.begun table.new; rows = T.rows table.new; written = O.written out.new }) }
+        (record { config = C.left config.old; script = S.left script.old; coming = T.coming table.old; begun = T.begun table.old; rows = T.rows table.old; given = T.given table.old; written = O.written out.old })
+        (record { config = C.left config.new; script = S.left script.new; coming = T.coming table.new; begun = T.begun table.new; rows = T.rows table.new; given = T.given table.new; written = O.written out.new }) }
     ensures within { result ≡ Status.Done → (bytes : List ℕ) → S.left script.old ≡ Some bytes → All (λ line. length line ≤ 1048576) (lines_of bytes) × (length bytes ≤ 1073741824) }
     ensures at_end { result ≡ Status.Done → IsAtEnd (S.left script.new) }
     ensures finished { result ≡ Status.Done → O.finished out.new ≡ true }
 
     // After another status the replies to some lines at the front stand.
     ensures stopped { result ≢ Status.Done → IsSome (T.begun table.new) → Stopped result
-        (record { config = C.left config.old; script = S.left script.old; coming = T.coming table.old; begun = T.begun table.old; rows = T.rows table.old; written = O.written out.old })
-        (record { config = C.left config.new; script = S.left script.new; coming = T.coming table.new; begun = T.begun table.new; rows = T.rows table.new; written = O.written out.new }) }
+        (record { config = C.left config.old; script = S.left script.old; coming = T.coming table.old; begun = T.begun table.old; rows = T.rows table.old; given = T.given table.old; written = O.written out.old })
+        (record { config = C.left config.new; script = S.left script.new; coming = T.coming table.new; begun = T.begun table.new; rows = T.rows table.new; given = T.given table.new; written = O.written out.new }) }
     ensures kept { result ≢ Status.Done → IsSome (T.begun table.new) → Kept result
-        (record { config = C.left config.old; script = S.left script.old; coming = T.coming table.old; begun = T.begun table.old; rows = T.rows table.old; written = O.written out.old })
-        (record { config = C.left config.new; script = S.left script.new; coming = T.coming table.new; begun = T.begun table.new; rows = T.rows table.new; written = O.written out.new }) }
+        (record { config = C.left config.old; script = S.left script.old; coming = T.coming table.old; begun = T.begun table.old; rows = T.rows table.old; given = T.given table.old; written = O.written out.old })
+        (record { config = C.left config.new; script = S.left script.new; coming = T.coming table.new; begun = T.begun table.new; rows = T.rows table.new; given = T.given table.new; written = O.written out.new }) }
     ensures untouched { T.begun table.new ≡ None → (O.written out.new ≡ O.written out.old) × (S.left script.new ≡ S.left script.old) }
     ensures late { (result ≡ Status.Done) ⊎ ((result ≡ Status.LineTooLong) ⊎ ((result ≡ Status.ScriptTooLong) ⊎ (result ≡ Status.Write))) → IsSome (T.begun table.new) }
 
@@ -88,11 +91,11 @@ fn served<C: Source, S: Source, O: Sink, T: Table>(
 ) -> Status
     requires { T.begun table.old ≡ None }
     ensures done { result ≡ Status.Done → Ran
-        (record { config = C.left config.old; script = S.left script.old; coming = T.coming table.old; begun = T.begun table.old; rows = T.rows table.old; written = O.written out.old })
-        (record { config = C.left config.new; script = S.left script.new; coming = T.coming table.new; begun = T.begun table.new; rows = T.rows table.new; written = O.written out.new }) }
+        (record { config = C.left config.old; script = S.left script.old; coming = T.coming table.old; begun = T.begun table.old; rows = T.rows table.old; given = T.given table.old; written = O.written out.old })
+        (record { config = C.left config.new; script = S.left script.new; coming = T.coming table.new; begun = T.begun table.new; rows = T.rows table.new; given = T.given table.new; written = O.written out.new }) }
     ensures stopped { result ≢ Status.Done → IsSome (T.begun table.new) → Stopped result
-        (record { config = C.left config.old; script = S.left script.old; coming = T.coming table.old; begun = T.begun table.old; rows = T.rows table.old; written = O.written out.old })
-        (record { config = C.left config.new; script = S.left script.new; coming = T.coming table.new; begun = T.begun table.new; rows = T.rows table.new; written = O.written out.new }) }
+        (record { config = C.left config.old; script = S.left script.old; coming = T.coming table.old; begun = T.begun table.old; rows = T.rows table.old; given = T.given table.old; written = O.written out.old })
+        (record { config = C.left config.new; script = S.left script.new; coming = T.coming table.new; begun = T.begun table.new; rows = T.rows table.new; given = T.given table.new; written = O.written out.new }) }
     ensures untouched { T.begun table.new ≡ None → (O.written out.new ≡ O.written out.old) × (S.left script.new ≡ S.left script.old) }
     ensures late { (result ≡ Status.Done) ⊎ ((result ≡ Status.LineTooLong) ⊎ ((result ≡ Status.ScriptTooLong) ⊎ (result ≡ Status.Write))) → IsSome (T.begun table.new) }
     ensures within { result ≡ Status.Done → (bytes : List ℕ) → S.left script.old ≡ Some bytes → All (λ line. length line ≤ 1048576) (lines_of bytes) × (length bytes ≤ 1073741824) }
@@ -110,7 +113,10 @@ fn served<C: Source, S: Source, O: Sink, T: Table>(
         return Status::Words;
     }
     match read_config(alloc, config) {
-        Ok(config) => serve_table(alloc, &config, script, out, table),
+        Ok(config) => {
+            let session = Session::new(alloc, config);
+            serve_table(alloc, &session, script, out, table)
+        }
         Err(status) => status,
     }
 }
@@ -124,10 +130,23 @@ fn read_config<C: Source>(alloc: Global, source: &mut C) -> Result<Config, Statu
 {
     let bytes = read_front(alloc, source)?;
     match Config::read(alloc, &bytes) {
-        Ok(config) => Ok(config),
+        Ok(config) => {
+            if is_built(&config) {
+                Ok(config)
+            } else {
+                Err(Status::Config(ConfigFault::NotBuilt))
+            }
+        }
         Err(ConfigFault::Memory) => Err(Status::Memory),
         Err(fault) => Err(Status::Config(fault)),
     }
+}
+
+// Whether all of a configuration is built.
+fn is_built(config: &Config) -> bool
+    ensures { result ≡ is_built config.now }
+{
+    config.virtuals().is_empty() && config.compounds().is_empty()
 }
 
 // The bytes of a source, to its end or to the first byte past the most that a configuration has.
@@ -157,18 +176,18 @@ fn read_front<C: Source>(alloc: Global, source: &mut C) -> Result<Vec<u8>, Statu
 // Begins the table, and serves the lines of the script over it.
 fn serve_table<S: Source, O: Sink, T: Table>(
     alloc: Global,
-    config: &Config,
+    session: &Session,
     script: &mut S,
     out: &mut O,
     table: &mut T,
 ) -> Status
     requires { T.begun table.old ≡ None }
-    ensures done { result ≡ Status.Done → RanWith config.now
-        (record { config = None; script = S.left script.old; coming = T.coming table.old; begun = None; rows = None; written = O.written out.old })
-        (record { config = None; script = S.left script.new; coming = λ _. None; begun = None; rows = T.rows table.new; written = O.written out.new }) }
-    ensures stopped { result ≢ Status.Done → IsSome (T.begun table.new) → StoppedWith config.now result
-        (record { config = None; script = S.left script.old; coming = T.coming table.old; begun = None; rows = None; written = O.written out.old })
-        (record { config = None; script = S.left script.new; coming = λ _. None; begun = None; rows = T.rows table.new; written = O.written out.new }) }
+    ensures done { result ≡ Status.Done → RanWith session.now
+        (record { config = None; script = S.left script.old; coming = T.coming table.old; begun = None; rows = None; given = T.given table.old; written = O.written out.old })
+        (record { config = None; script = S.left script.new; coming = λ _. None; begun = None; rows = T.rows table.new; given = T.given table.new; written = O.written out.new }) }
+    ensures stopped { result ≢ Status.Done → IsSome (T.begun table.new) → StoppedWith session.now result
+        (record { config = None; script = S.left script.old; coming = T.coming table.old; begun = None; rows = None; given = T.given table.old; written = O.written out.old })
+        (record { config = None; script = S.left script.new; coming = λ _. None; begun = None; rows = T.rows table.new; given = T.given table.new; written = O.written out.new }) }
     ensures untouched { T.begun table.new ≡ None → (O.written out.new ≡ O.written out.old) × (S.left script.new ≡ S.left script.old) }
     ensures late { (result ≡ Status.Done) ⊎ ((result ≡ Status.LineTooLong) ⊎ ((result ≡ Status.ScriptTooLong) ⊎ (result ≡ Status.Write))) → IsSome (T.begun table.new) }
     ensures within { result ≡ Status.Done → (bytes : List ℕ) → S.left script.old ≡ Some bytes → All (λ line. length line ≤ 1048576) (lines_of bytes) × (length bytes ≤ 1073741824) }
@@ -179,12 +198,12 @@ fn serve_table<S: Source, O: Sink, T: Table>(
     ensures long_script { result ≡ Status.ScriptTooLong → (bytes : List ℕ) → S.left script.old ≡ Some bytes → 1073741824 < length bytes }
     ensures write { result ≡ Status.Write → Rose (O.faults out.old) (O.faults out.new) ⊎ Rose (O.idle out.old) (O.idle out.new) }
     ensures table { result ≡ Status.Table → Rose (T.faults table.old) (T.faults table.new) }
-    ensures schema { IsSome (T.begun table.new) → T.begun table.new ≡ Some config.now.schema }
+    ensures schema { IsSome (T.begun table.new) → T.begun table.new ≡ Some session.now.schema }
     ensures not_words { result ≢ Status.Words }
     ensures not_config { (f : the_fault) → result ≢ Status.Config f }
 {
-    match table.begin(config.schema()) {
-        Ok(()) => serve_lines(alloc, config, script, out, table),
+    match table.begin(session.config().schema()) {
+        Ok(()) => serve_lines(alloc, session, script, out, table),
         Err(TableFault::Failed) => Status::Table,
         Err(TableFault::Memory) => Status::Memory,
     }
@@ -193,18 +212,18 @@ fn serve_table<S: Source, O: Sink, T: Table>(
 // The replies to the lines of a script, over a table that has begun.
 fn serve_lines<S: Source, O: Sink, T: Table>(
     alloc: Global,
-    config: &Config,
+    session: &Session,
     script: &mut S,
     out: &mut O,
     table: &mut T,
 ) -> Status
-    requires { T.begun table.old ≡ Some config.now.schema }
-    ensures done { result ≡ Status.Done → RanWith config.now
-        (record { config = None; script = S.left script.old; coming = λ _. T.rows table.old; begun = None; rows = None; written = O.written out.old })
-        (record { config = None; script = S.left script.new; coming = λ _. None; begun = None; rows = T.rows table.new; written = O.written out.new }) }
-    ensures stopped { result ≢ Status.Done → StoppedWith config.now result
-        (record { config = None; script = S.left script.old; coming = λ _. T.rows table.old; begun = None; rows = None; written = O.written out.old })
-        (record { config = None; script = S.left script.new; coming = λ _. None; begun = None; rows = T.rows table.new; written = O.written out.new }) }
+    requires { T.begun table.old ≡ Some session.now.schema }
+    ensures done { result ≡ Status.Done → RanWith session.now
+        (record { config = None; script = S.left script.old; coming = λ _. T.rows table.old; begun = None; rows = None; given = T.given table.old; written = O.written out.old })
+        (record { config = None; script = S.left script.new; coming = λ _. None; begun = None; rows = T.rows table.new; given = T.given table.new; written = O.written out.new }) }
+    ensures stopped { result ≢ Status.Done → StoppedWith session.now result
+        (record { config = None; script = S.left script.old; coming = λ _. T.rows table.old; begun = None; rows = None; given = T.given table.old; written = O.written out.old })
+        (record { config = None; script = S.left script.new; coming = λ _. None; begun = None; rows = T.rows table.new; given = T.given table.new; written = O.written out.new }) }
     ensures within { result ≡ Status.Done → (bytes : List ℕ) → S.left script.old ≡ Some bytes → All (λ line. length line ≤ 1048576) (lines_of bytes) × (length bytes ≤ 1073741824) }
     ensures at_end { result ≡ Status.Done → IsAtEnd (S.left script.new) }
     ensures finished { result ≡ Status.Done → O.finished out.new ≡ true }
@@ -229,7 +248,7 @@ fn serve_lines<S: Source, O: Sink, T: Table>(
             Err(LineFault::TooMuch) => return Status::ScriptTooLong,
             Err(LineFault::Memory) => return Status::Memory,
         };
-        if let Err(status) = reply(alloc, config, table, out, &line) {
+        if let Err(status) = reply(session, table, out, &line) {
             return status;
         }
     }
@@ -251,15 +270,14 @@ fn finished<O: Sink>(out: &mut O) -> Status
 
 // Writes the reply to one line.
 fn reply<O: Sink, T: Table>(
-    alloc: Global,
-    config: &Config,
+    session: &Session,
     table: &mut T,
     out: &mut O,
     line: &[u8],
 ) -> Result<(), Status>
-    requires { T.begun table.old ≡ Some config.now.schema }
-    ensures ok { OnOk result ((s : State) → T.rows table.old ≡ Some s.rows → Turned config.now s line.now (T.rows table.new) (O.written out.old) (O.written out.new)) }
-    ensures err { IfErr result (λ status. (s : State) → T.rows table.old ≡ Some s.rows → TurnedDown config.now status s line.now (T.rows table.new) (O.written out.old) (O.written out.new)) }
+    requires { T.begun table.old ≡ Some session.now.schema }
+    ensures ok { OnOk result ((s : State) → T.rows table.old ≡ Some s.rows → Turned session.now s line.now (T.rows table.new) (T.given table.old) (T.given table.new) (O.written out.old) (O.written out.new)) }
+    ensures err { IfErr result (λ status. (s : State) → T.rows table.old ≡ Some s.rows → TurnedDown session.now status s line.now (T.rows table.new) (O.written out.old) (O.written out.new)) }
     ensures begun { T.begun table.new ≡ T.begun table.old }
     ensures of_reply { IfErr result IsOfReply }
     ensures table { result ≡ Err Status.Table → Rose (T.faults table.old) (T.faults table.new) }
@@ -268,7 +286,7 @@ fn reply<O: Sink, T: Table>(
     ensures out_later { O.faults out.old ≤ O.faults out.new }
     ensures idle_later { O.idle out.old ≤ O.idle out.new }
 {
-    match step(alloc, config, table, line) {
+    match session.step(line, table) {
         Ok(text) => match write_all(out, &text) {
             Ok(()) => Ok(()),
             Err(_) => Err(Status::Write),

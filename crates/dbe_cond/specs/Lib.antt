@@ -1,3 +1,9 @@
+pub use Rattle.dbe_values.specs.Attributes
+pub mod Condition
 pub mod Meaning
-pub mod Test
+pub mod Names
 pub mod Wants
+pub mod Given
+pub mod Placeholders
+pub mod Resolved
+pub mod Reading

@@ -1,12 +1,24 @@
-//! Conditions over items: their text, what they mean, and which rows a table hands out for them.
+//! Conditions: what they are, what they mean over an item, and which rows a table hands out for them.
 #![tactic(auto)]
 
 mod cond;
+mod fault;
 mod meaning;
-mod test;
+mod names;
+mod operand;
+mod parsed;
+mod placeholders;
+mod reading;
+mod resolve;
+mod unknown;
 mod wanted;
 
-pub use cond::{Cond, Op, Operand};
+pub use cond::Cond;
+pub use dbe_tokens::Op;
+pub use fault::CondFault;
 pub use meaning::holds;
-pub use test::{Test, is_placeholder, test_of};
+pub use names::first_name_with;
+pub use operand::Operand;
+pub use placeholders::{Names, Values};
+pub use reading::{one_reading, one_refusal, read, read_is_lawful};
 pub use wanted::{Wanted, wants};

@@ -2,18 +2,18 @@ ghost use Rattle.std.specs.Prelude.{◌≡◌};
 ghost use Rattle.dbe_cond.specs.Wants.{wants};
 
 use crate::{Cond, holds};
-use dbe_texts::Item;
+use dbe_values::Item;
 
 /// Which rows a table hands out.
-#[derive(Debug, Drop)]
+#[derive(Drop)]
 pub enum Wanted {
     /// Every row.
     Every,
-    /// The rows of which a condition is true.
+    /// The rows of which a condition holds.
     Only(Cond),
 }
 
-/// Whether a row is wanted, the row taken as an item. It takes no memory.
+/// Whether a row is wanted, the row taken as an item. Takes no memory.
 pub fn wants(wanted: &Wanted, row: &Item) -> bool
     ensures { result ≡ wants wanted.now row.now }
 {

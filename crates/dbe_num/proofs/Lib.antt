@@ -3,6 +3,7 @@ pub mod Significant
 pub mod Parsed
 pub mod Compared
 pub mod Written
+pub mod Lengths
 pub mod Grammar
 pub mod Again
 pub mod Read

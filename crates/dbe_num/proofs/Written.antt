@@ -7,7 +7,7 @@ use Rattle.dbe_num.specs.Decimal.{Decimal}
 use Rattle.dbe_num.specs.Numeral.{fraction_text, sign_text, minus, unmarked}
 use Rattle.dbe_num.specs.NormalText.{all_digits, whole_length, fraction_with, normal_numeral, normal_text}
 
-zeros_ascii : (n : ℕ) → IsAscii (replicate n 48)
+pub zeros_ascii : (n : ℕ) → IsAscii (replicate n 48)
 zeros_ascii zero = IsAscii-nil
 zeros_ascii (suc n) = IsAscii-cons 48 (replicate n 48) (omega arith) (zeros_ascii n)
 

@@ -1,6 +1,6 @@
 ghost use Rattle.std.specs.Prelude.{◌≡◌, IsAscii, [], ◌∷◌, if◌then◌else◌, IfOk, OnOk, string_bytes, replicate, ◌+◌, ◌*◌, ◌≤◌, ◌<◌, ◌^◌, ◌++◌, length, true};
 ghost use Rattle.std.specs.Str.{all_ascii_digits};
-ghost use Rattle.dbe_num.specs.Decimal.{IsNormal, zero_number, number_order};
+ghost use Rattle.dbe_num.specs.Decimal.{IsNormal, zero_number, number_order, digit_count};
 ghost use Rattle.std.specs.Ordering.{nat_cmp};
 ghost use Rattle.dbe_num.specs.NormalText.{normal_text, all_digits, fraction_length, fraction_with};
 ghost use Rattle.dbe_num.specs.Reading.{number_of};
@@ -105,6 +105,16 @@ impl Number {
         Ok(Text::from_string(text))
     }
 
+    /// How many bytes the text has. Takes no memory.
+    pub fn text_len(&self) -> usize
+        ensures { result ≡ length (normal_text self.now) }
+    {
+        let behind = usize::from(ONES_PLACE.saturating_sub(self.place()));
+        let trailing = usize::from(self.place().saturating_sub(ONES_PLACE));
+        let digits = (behind + 1).max(digit_count(self.digits) + trailing);
+        usize::from(self.negative) + digits + usize::from(behind > 0)
+    }
+
     /// That the number is in its normal form, which callers may rely on. Does nothing.
     pub fn is_normal(&self)
         ensures { IsNormal self.now }
@@ -156,7 +166,8 @@ impl Number {
         (self.exponent + 167) as u16
     }
 
-    fn zero() -> Number
+    /// Zero.
+    pub fn zero() -> Number
         ensures { result ≡ zero_number }
     {
         Number::at_place(false, 0, 167)
@@ -236,6 +247,20 @@ fn compare_raised(digits: u128, by: u16, other: u128) -> Ordering
         Some(raised) => raised.cmp(&other),
         None => Ordering::Greater,
     }
+}
+
+/// How many digits a number is written with.
+fn digit_count(digits: u128) -> usize
+    ensures count { result ≡ digit_count digits }
+    ensures few { result ≤ 64 }
+{
+    let mut count = 1;
+    let mut rest = digits;
+    while rest >= 10 {
+        rest /= 10;
+        count += 1;
+    }
+    count
 }
 
 /// Writes this many zeros at the end of a text.
@@ -329,6 +354,7 @@ mod tests {
         for (text, normal) in TEXTS {
             let number = Number::parse(text)?;
             assert_eq!(rt; number.text(rt.alloc())?.as_str(), normal, "{text}");
+            assert_eq!(rt; number.text_len(), normal.len(), "{text}");
             assert_eq!(rt; Number::parse(normal)?, number, "{text}");
         }
         for (text, fault) in FAULTS {
@@ -345,6 +371,8 @@ mod tests {
         assert!(rt; high.text(rt.alloc())?.as_str().starts_with(nines));
         let low = Number::parse("-99999999999999999999999999999999999999E-167")?;
         assert_eq!(rt; low.text(rt.alloc())?.as_bytes().len(), 170);
+        assert_eq!(rt; low.text_len(), 170);
+        assert_eq!(rt; high.text_len(), 126);
         assert_eq!(rt;
             Number::parse("1E125")?.text(rt.alloc())?.as_bytes().len(),
             126

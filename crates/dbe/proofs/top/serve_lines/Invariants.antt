@@ -1,7 +1,7 @@
 use Rattle.std.proofs.Common.{◌≡◌, ◌≤◌, List, ℕ, Some, None, true}
 use Rattle.std.specs.Io.KnownBytes.{IsAtEnd}
 use Rattle.dbe_io.specs.Reading.{budget}
-use Rattle.dbe.specs.Run.{State}
+use Rattle.dbe_session.specs.Reply.{State}
 use Rattle.dbe.proofs.ReadSoFar.{ReadSoFar}
 use Rattle.dbe.proofs.Progress.{Progress}
 use Rattle.dbe.proofs.top.serve_lines.Given as goal
@@ -13,7 +13,7 @@ invariant-lines g l =
     let T = g.T.Table in
     record {
       run : (bytes : List ℕ) (start : State) → S.left l.fn.script ≡ Some bytes → T.rows l.fn.table ≡ Some start.rows
-          → Progress l.fn.config bytes start l.reader (S.left l.script) (T.rows l.table) (O.written l.fn.out) (O.written l.out);
+          → Progress l.fn.session bytes start l.reader (S.left l.script) (T.rows l.table) (T.given l.fn.table) (T.given l.table) (O.written l.fn.out) (O.written l.out);
       script : (bytes : List ℕ) → S.left l.fn.script ≡ Some bytes → (lines : List (List ℕ)) × ReadSoFar 1048576 1073741824 bytes l.reader (S.left l.script) lines;
       at_end : l.reader.ended ≡ true → IsAtEnd (S.left l.script);
       no_fault : l.reader.fault ≡ None;

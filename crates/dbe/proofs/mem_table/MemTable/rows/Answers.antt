@@ -1,8 +1,0 @@
-use Rattle.std.proofs.Common.{◌∙◌}
-use Rattle.std.specs.BTreeMap.{values}
-use Rattle.dbe.proofs.Tables.{wanted-every}
-use Rattle.dbe.proofs.Results.{weaker_ok}
-use Rattle.dbe.proofs.mem_table.MemTable.rows.Goals as goal
-
-pub returns : goal.returns
-returns c = rw (← c.self.view_is) (weaker_ok c.found_among.result _ _ (λ found is. is ∙ wanted-every (values c.self.inside.rows)) c.found_among.ensures)

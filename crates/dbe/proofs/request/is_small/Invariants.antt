@@ -1,9 +1,0 @@
-use Rattle.std.proofs.Common.{◌≡◌, ◌+◌, ◌≤◌, drop, sum_by}
-use Rattle.dbe.specs.Requests.{attribute_size}
-use Rattle.dbe.proofs.request.is_small.Given as goal
-
-abbrev pub invariant-loop-i : goal.invariant-loop-i
-invariant-loop-i l = record {
-  sum : l.size + sum_by attribute_size (drop l.i l.item) ≡ sum_by attribute_size l.item;
-  small : l.size ≤ 409600;
-}

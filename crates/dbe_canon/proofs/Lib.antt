@@ -1,0 +1,15 @@
+pub mod Appending
+pub mod Lengths
+pub mod Fields
+pub mod Orders
+pub mod ReadLeaves
+pub mod Loops
+pub mod Many
+pub mod SetBytes
+pub mod Views
+pub mod Spelled
+pub mod ValueLaws
+pub mod ReadAgain
+pub mod ShortParts
+pub mod Answered
+pub mod PathOrder

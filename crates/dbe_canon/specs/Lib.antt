@@ -1,0 +1,3 @@
+pub mod Canon
+pub mod Path
+pub mod Reading

@@ -1,0 +1,10 @@
+pub mod Actions
+pub mod Bounds
+pub mod Configured
+pub mod Entries
+pub mod Order
+pub mod Rules
+pub mod Setting
+pub mod Shape
+pub mod Spelling
+pub mod Steps

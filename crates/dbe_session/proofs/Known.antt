@@ -1,0 +1,65 @@
+-- What is known of requests that were read.
+use Rattle.std.proofs.Common.{◌≡◌, ℕ, List, [], ◌∷◌, true, false, Bool, Option, Some, None, Result, Ok, Err, refl, sym, ap, ◌∙◌, subst, map}
+use Rattle.std.specs.Prelude.{option_map}
+use Rattle.dbe_values.specs.Val.{Val, Entries}
+use Rattle.dbe_values.specs.View.{view, attr_of, entry_view, entries_of, attributes_of}
+use Rattle.dbe_values.specs.Items.{GivesItem}
+use Rattle.dbe_values.specs.Keys.{row_key}
+use Rattle.dbe_values.specs.KeyValues.{key_view, GivesKey}
+use Rattle.dbe_values.specs.declared.value.AttrValue.{AttrValue}
+use Rattle.dbe_values.specs.declared.fault.ItemFault.{ItemFault}
+use Rattle.dbe_values.specs.declared.fault.ItemFault.TheVariants.{NotObject, At}
+use Rattle.dbe_values.specs.declared.fault.ValueFault.TheVariants as v
+use Rattle.dbe_values.specs.declared.key.KeySchema.{KeySchema}
+use Rattle.dbe_values.specs.declared.key.KeyValue.{KeyValue}
+use Rattle.dbe_values.proofs.Unviewed.{attr_of-view, attributes_of-entries_of}
+use Rattle.dbe_session.specs.Requests.{put_in, keyed_by, with_key, key_value}
+use Rattle.dbe_session.specs.KeysRead.{IsFaultOf, fault_request}
+use Rattle.dbe_session.specs.declared.request.Request.{Request}
+use Rattle.dbe_session.specs.declared.request.Request.TheVariants as r
+
+-- an item that was read is put
+pub put_known : (item : List (List ℕ × AttrValue)) (read : Result Entries ItemFault) → read ≡ Ok (entries_of (map entry_view item)) → r.Put item ≡ put_in read
+put_known item read is = sym (ap put_in is ∙ ap r.Put (attributes_of-entries_of item))
+
+-- a fault that is told is the one that reading has
+fault_is : (fault : ItemFault) (read : Result Entries ItemFault) (request : Request) → GivesItem (Err fault) read → IsFaultOf fault request → read ≡ Err fault
+fault_is NotObject read request gives is = gives
+fault_is (At name v.Memory) read request gives is = absurd is.0
+fault_is (At name v.Shape) read request gives is = gives
+fault_is (At name v.BadNumber) read request gives is = gives
+fault_is (At name v.BadBase64) read request gives is = gives
+fault_is (At name v.EmptySet) read request gives is = gives
+fault_is (At name v.DoubledElement) read request gives is = gives
+fault_is (At name v.TooDeep) read request gives is = gives
+fault_is (At name v.BadName) read request gives is = gives
+
+put_fault_is : (fault : ItemFault) → put_in (Err fault) ≡ fault_request fault
+put_fault_is NotObject = refl
+put_fault_is (At name why) = refl
+
+pub put_refused : (fault : ItemFault) (read : Result Entries ItemFault) (request : Request) → GivesItem (Err fault) read → IsFaultOf fault request → request ≡ put_in read
+put_refused fault read request gives is = is.1 ∙ sym (ap put_in (fault_is fault read request gives is) ∙ put_fault_is fault)
+
+key_fault_is : (schema : KeySchema) (make : KeyValue → Request) (fault : ItemFault) → keyed_by schema make (Err fault) ≡ fault_request fault
+key_fault_is schema make NotObject = refl
+key_fault_is schema make (At name why) = refl
+
+pub key_refused : (schema : KeySchema) (make : KeyValue → Request) (fault : ItemFault) (read : Result Entries ItemFault) (request : Request) → GivesItem (Err fault) read → IsFaultOf fault request → request ≡ keyed_by schema make read
+key_refused schema make fault read request gives is = is.1 ∙ sym (ap (keyed_by schema make) (fault_is fault read request gives is) ∙ key_fault_is schema make fault)
+
+-- a key that was read is the one that is asked for
+sort_seen : (sort : Option AttrValue) → option_map attr_of (option_map view sort) ≡ sort
+sort_seen None = refl
+sort_seen (Some a) = ap Some (attr_of-view a)
+
+pub key_seen : (k : KeyValue) → key_value (key_view k) ≡ k
+key_seen k = rw (attr_of-view k.partition, sort_seen k.sort) refl
+
+pub key_known : (schema : KeySchema) (make : KeyValue → Request) (item : List (List ℕ × AttrValue)) (read : Result Entries ItemFault) (k : KeyValue) → read ≡ Ok (entries_of (map entry_view item)) → row_key schema item ≡ Ok (key_view k) → make k ≡ keyed_by schema make read
+key_known schema make item read k is has =
+    sym (ap (keyed_by schema make) is ∙ ap (λ i. with_key make (row_key schema i)) (attributes_of-entries_of item) ∙ ap (with_key make) has ∙ ap make (key_seen k))
+
+pub key_bad : (schema : KeySchema) (make : KeyValue → Request) (item : List (List ℕ × AttrValue)) (read : Result Entries ItemFault) (name : List ℕ) → read ≡ Ok (entries_of (map entry_view item)) → row_key schema item ≡ Err name → r.Key name ≡ keyed_by schema make read
+key_bad schema make item read name is has =
+    sym (ap (keyed_by schema make) is ∙ ap (λ i. with_key make (row_key schema i)) (attributes_of-entries_of item) ∙ ap (with_key make) has)

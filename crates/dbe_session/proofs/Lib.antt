@@ -1,0 +1,6 @@
+pub mod Counts
+pub mod Known
+pub mod Asked
+pub mod Floats
+pub mod Replies
+pub mod Keys

@@ -1,0 +1,202 @@
+-- Replies of a table that answered.
+use Rattle.std.proofs.Common.{bytes_eq, ◌≡◌, ◌⊎◌, ◌≢◌, ℕ, List, [], ◌∷◌, Bool, true, false, true≢false, suc, arith, ◌==◌, length, if◌then◌else◌, inl, inr, Option, Some, None, Result, Ok, Err, IfSome, IfOk, OnErr, refl, sym, ap, ◌∙◌, subst}
+use Rattle.dbe_values.specs.declared.key.KeySchema.{KeySchema}
+use Rattle.dbe_values.specs.declared.key.KeyValue.{KeyValue}
+use Rattle.dbe_values.specs.KeyValues.{key_view}
+use Rattle.dbe_config.specs.Setting.{Setting}
+use Rattle.dbe_item.specs.Acceptance.{put_fault}
+use Rattle.dbe_item.specs.declared.fault.PutFault.{PutFault}
+use Rattle.dbe_item.specs.declared.fault.PutFault.TheVariants as p
+use Rattle.dbe_cond.specs.declared.fault.CondFault.TheVariants as c
+use Rattle.dbe_table.specs.Rows.{Row, row_at, put_row, risen, found_count}
+use Rattle.std.proofs.lemmas.Bool.Decides.{nat_tests}
+use Rattle.std.specs.Str.{is_utf8}
+use Rattle.serde_json.specs.Data.{Data}
+use Rattle.serde_json.specs.Read.{read}
+use Rattle.serde_json.proofs.OnLiterals.{serde_json_on_literals}
+use Rattle.dbe_values.specs.Json.{json_of}
+use Rattle.dbe_cond.specs.Condition.{Condition}
+use Rattle.dbe_cond.specs.Reading.{Reads, Refuses}
+use Rattle.dbe_cond.specs.declared.fault.CondFault.{CondFault}
+use Rattle.dbe_session.specs.Requests.{request_of, request_in}
+use Rattle.dbe_session.specs.Texts.{put_text, put_refusal, cond_refusal}
+use Rattle.dbe_session.specs.Reply.{State, Turn, IsTurn, IsReadingOf, found_text, checked, row_of, put_reply, searched, reserved_in, reply_by, reply_to}
+use Rattle.dbe_session.specs.Steps.{Replied, Kept, Answered, Undone}
+use Rattle.dbe_session.specs.declared.request.Query.{Query}
+use Rattle.dbe_session.specs.declared.request.Request.{Request}
+use Rattle.dbe_session.specs.declared.request.Request.TheVariants as r
+use Rattle.dbe_session.proofs.Counts.{risen_none}
+
+pub on_err : {A E : Type 0} (answer : Result A E) (P : Type 0) → P → OnErr answer P
+on_err (Ok a) P p = tt
+on_err (Err e) P p = p
+
+some_at : {A : Type 0} (o : Option A) (P : A → Type 0) (a : A) → o ≡ Some a → IfSome o P → P a
+some_at o P a is h = let Q : Option _ → Type 0 = λ o. IfSome o P in subst Q is h
+
+-- a table's row for a key
+module _ (st : Setting) (s : State) (key : KeyValue) (begun : Option KeySchema) (rows rows' : Option (List Row)) (before after : ℕ) (found : Option Row) (is_begun : begun ≡ Some st.schema) (are : rows ≡ Some s.rows)
+    (answered : IfSome begun (λ schema. IfSome rows (λ b. found ≡ row_at schema (key_view key) b))) (same : rows' ≡ rows) (given : after ≡ risen before (found_count found)) where
+  found_is : found ≡ row_of st s key
+  found_is = some_at rows (λ b. found ≡ row_at st.schema (key_view key) b) s.rows are (some_at begun (λ schema. IfSome rows (λ b. found ≡ row_at schema (key_view key) b)) st.schema is_begun answered)
+
+  given_is : after ≡ risen before (found_count (row_of st s key))
+  given_is = given ∙ ap (λ f. risen before (found_count f)) found_is
+
+  pub got : (text : List ℕ) → text ≡ found_text found → Replied st s (r.Get key) text rows' before after
+  got text is = record { reading = Err c.Memory; is_reading = tt; is_text = is ∙ ap found_text found_is; are_rows = same ∙ are; given = given_is }
+
+  pub looked : (text : List ℕ) → text ≡ checked found → Replied st s (r.Check key) text rows' before after
+  looked text is = record { reading = Err c.Memory; is_reading = tt; is_text = is ∙ ap checked found_is; are_rows = same ∙ are; given = given_is }
+
+  pub not_got : Kept st s (r.Get key) rows' before after
+  not_got = record { same_rows = same ∙ are; given = inr (Err c.Memory, tt, given_is) }
+
+  pub not_looked : Kept st s (r.Check key) rows' before after
+  not_looked = record { same_rows = same ∙ are; given = inr (Err c.Memory, tt, given_is) }
+
+-- a put that was made
+pub put_made : (st : Setting) (s : State) (item : Row) (begun : Option KeySchema) (rows rows' : Option (List Row)) (before after : ℕ) (text : List ℕ) → begun ≡ Some st.schema → rows ≡ Some s.rows → put_fault st item ≡ None
+    → IfSome begun (λ schema. IfSome rows (λ b. rows' ≡ Some (put_row schema item b))) → after ≡ before → text ≡ put_text → Replied st s (r.Put item) text rows' before after
+put_made st s item begun rows rows' before after text is_begun are fits answered given is = record {
+  reading = Err c.Memory;
+  is_reading = tt;
+  is_text = is ∙ ap (λ f. (put_reply st s item f).text) (sym fits);
+  are_rows = some_at rows (λ b. rows' ≡ Some (put_row st.schema item b)) s.rows are (some_at begun (λ schema. IfSome rows (λ b. rows' ≡ Some (put_row schema item b))) st.schema is_begun answered) ∙ ap (λ f. Some (put_reply st s item f).state.rows) (sym fits);
+  given = given ∙ sym (risen_none before) ∙ ap (λ f. risen before (put_reply st s item f).given) (sym fits);
+}
+
+-- a put that is refused
+pub put_refused : (st : Setting) (s : State) (item : Row) (rows : Option (List Row)) (count : ℕ) (fault : PutFault) (text : List ℕ) → rows ≡ Some s.rows → put_fault st item ≡ Some fault → text ≡ put_refusal fault → Replied st s (r.Put item) text rows count count
+put_refused st s item rows count fault text are refused is = record {
+  reading = Err c.Memory;
+  is_reading = tt;
+  is_text = is ∙ ap (λ f. (put_reply st s item f).text) (sym refused);
+  are_rows = are ∙ ap (λ f. Some (put_reply st s item f).state.rows) (sym refused);
+  given = sym (risen_none count) ∙ ap (λ f. risen count (put_reply st s item f).given) (sym refused);
+}
+
+-- a request that does not come to the table
+pub plain_reply : (st : Setting) (s : State) (request : Request) (text : List ℕ) (rows : Option (List Row)) (count : ℕ) → rows ≡ Some s.rows → IsReadingOf request (Err c.Memory) → text ≡ (reply_by st s request (Err c.Memory)).text
+    → (reply_by st s request (Err c.Memory)).state ≡ s → (reply_by st s request (Err c.Memory)).given ≡ 0 → Replied st s request text rows count count
+plain_reply st s request text rows count are reading is state given = record {
+  reading = Err c.Memory;
+  is_reading = reading;
+  is_text = is;
+  are_rows = are ∙ ap (λ (t : State). Some t.rows) (sym state);
+  given = sym (risen_none count) ∙ ap (risen count) (sym given);
+}
+
+-- a query whose condition was read
+module _ (st : Setting) (s : State) (q : Query) (cond : Condition) (rows rows' : Option (List Row)) (before after : ℕ) (reads : Reads q.text q.names q.values cond) (are : rows ≡ Some s.rows) (same : rows' ≡ rows) where
+  searched_state : (name : Option (List ℕ)) → (searched s cond name).state ≡ s
+  searched_state None = refl
+  searched_state (Some name) = refl
+
+  pub answered : (text : List ℕ) → text ≡ (searched s cond (reserved_in cond)).text → after ≡ risen before (searched s cond (reserved_in cond)).given → Replied st s (r.Query q) text rows' before after
+  answered text is given = record { reading = Ok cond; is_reading = reads; is_text = is; are_rows = same ∙ are ∙ ap (λ (t : State). Some t.rows) (sym (searched_state (reserved_in cond))); given = given }
+
+  pub not_answered : (after ≡ before) ⊎ (after ≡ risen before (searched s cond (reserved_in cond)).given) → Kept st s (r.Query q) rows' before after
+  not_answered (inl given) = record { same_rows = same ∙ are; given = inl given }
+  not_answered (inr given) = record { same_rows = same ∙ are; given = inr (Ok cond, reads, given) }
+
+-- a query whose condition is refused
+pub cond_refused : (st : Setting) (s : State) (q : Query) (fault : CondFault) (text : List ℕ) (rows : Option (List Row)) (count : ℕ) → fault ≢ c.Memory → Refuses q.text q.names q.values fault → rows ≡ Some s.rows → text ≡ cond_refusal fault → Replied st s (r.Query q) text rows count count
+cond_refused st s q fault text rows count told refuses are is = record { reading = Err fault; is_reading = (told, refuses); is_text = is; are_rows = are; given = sym (risen_none count) }
+
+-- ---- lines
+
+-- a line that is not empty gets the reply to its request
+pub line_replied : (st : Setting) (s : State) (line text : List ℕ) (rows : Option (List Row)) (before after : ℕ) → line ≢ [] → Replied st s (request_of st.schema line) text rows before after → Answered st s line text rows before after
+line_replied st s [] text rows before after some p = absurd (some refl)
+line_replied st s (b ∷ bytes) text rows before after some p = record {
+  turn = record { line = b ∷ bytes; reading = p.reading };
+  is_line = refl;
+  is_turn = p.is_reading;
+  is_text = p.is_text;
+  are_rows = p.are_rows;
+  given = p.given;
+}
+
+given_undone : (st : Setting) (s : State) (b : ℕ) (bytes : List ℕ) (before after : ℕ) → (after ≡ before) ⊎ ((reading : Result Condition CondFault) × IsReadingOf (request_of st.schema (b ∷ bytes)) reading × (after ≡ risen before (reply_by st s (request_of st.schema (b ∷ bytes)) reading).given))
+    → (after ≡ before) ⊎ ((turn : Turn) × (turn.line ≡ b ∷ bytes) × IsTurn st turn × (after ≡ risen before (reply_to st s turn).given))
+given_undone st s b bytes before after (inl same) = inl same
+given_undone st s b bytes before after (inr p) = inr (record { line = b ∷ bytes; reading = p.0 }, refl, p.1, p.2)
+
+pub line_undone : (st : Setting) (s : State) (line : List ℕ) (rows : Option (List Row)) (before after : ℕ) → line ≢ [] → Kept st s (request_of st.schema line) rows before after → Undone st s line rows before after
+line_undone st s [] rows before after some p = absurd (some refl)
+line_undone st s (b ∷ bytes) rows before after some p = record { are_rows = inl p.same_rows; given = given_undone st s b bytes before after p.given }
+
+-- nothing was done
+pub nothing_undone : (st : Setting) (s : State) (line : List ℕ) (rows : Option (List Row)) (count : ℕ) → rows ≡ Some s.rows → Undone st s line rows count count
+nothing_undone st s line rows count are = record { are_rows = inl are; given = inl refl }
+
+-- ---- an empty line
+
+nothing_read : read [] ≡ None
+unfolding serde_json_on_literals
+nothing_read = refl
+
+none_if : (t : Bool) (d : Option Data) → d ≡ None → (if t then d else None) ≡ None
+none_if true d is = is
+none_if false d is = refl
+
+pub no_json : json_of [] ≡ None
+no_json = none_if (is_utf8 []) (read []) nothing_read
+
+pub no_request : (schema : KeySchema) → request_of schema [] ≡ r.NotJson
+no_request schema = ap (request_in schema) no_json
+
+pub empty_line : (st : Setting) (s : State) (line text : List ℕ) (rows : Option (List Row)) (count : ℕ) → line ≡ [] → text ≡ [] → rows ≡ Some s.rows → Answered st s line text rows count count
+empty_line st s line text rows count empty is are =
+    let P : Request → Type 0 = λ request. IsReadingOf request (Err c.Memory) in
+    record {
+      turn = record { line = []; reading = Err c.Memory };
+      is_line = sym empty;
+      is_turn = subst P (sym (no_request st.schema)) tt;
+      is_text = is;
+      are_rows = are;
+      given = sym (risen_none count);
+    }
+
+-- what a call answered, handed on
+pub then_ok : {A E : Type 0} (answer : Result A E) (P Q : A → Type 0) → ((a : A) → P a → Q a) → IfOk answer P → IfOk answer Q
+then_ok (Ok a) P Q f p = f a p
+then_ok (Err e) P Q f p = tt
+
+pub then_err : {A E : Type 0} (answer : Result A E) (P Q : Type 0) → (P → Q) → OnErr answer P → OnErr answer Q
+then_err (Ok a) P Q f p = tt
+then_err (Err e) P Q f p = f p
+
+-- a line whose request was read, over the same setting
+pub asked_replied : (st st' : Setting) (s : State) (line text : List ℕ) (request : Request) (rows : Option (List Row)) (before after : ℕ) → st' ≡ st → request ≡ request_of st'.schema line → line ≢ [] → Replied st' s request text rows before after → Answered st s line text rows before after
+asked_replied st st' s line text request rows before after same is some p =
+    let P : Request → Type 0 = λ request. Replied st' s request text rows before after in
+    let Q : Setting → Type 0 = λ st. Answered st s line text rows before after in
+    subst Q same (line_replied st' s line text rows before after some (subst P is p))
+
+pub asked_undone : (st st' : Setting) (s : State) (line : List ℕ) (request : Request) (rows : Option (List Row)) (before after : ℕ) → st' ≡ st → request ≡ request_of st'.schema line → line ≢ [] → Kept st' s request rows before after → Undone st s line rows before after
+asked_undone st st' s line request rows before after same is some p =
+    let P : Request → Type 0 = λ request. Kept st' s request rows before after in
+    let Q : Setting → Type 0 = λ st. Undone st s line rows before after in
+    subst Q same (line_undone st' s line rows before after some (subst P is p))
+
+not_zero : (n : ℕ) → false ≡ (suc n == 0)
+not_zero n = grind (arith, nat_tests)
+
+pub is_nothing : (line : List ℕ) → true ≡ (length line == 0) → line ≡ []
+is_nothing [] is = refl
+is_nothing (b ∷ bytes) is = absurd (true≢false (is ∙ sym (not_zero (length bytes))))
+
+pub is_something : (line : List ℕ) → false ≡ (length line == 0) → line ≢ []
+is_something line is empty = true≢false (sym (is ∙ ap (λ l. length l == 0) empty))
+
+-- a refusal of a put is not its ok
+pub not_ok : (fault : PutFault) → bytes_eq (put_refusal fault) put_text ≡ false
+unfolding serde_json_on_literals
+not_ok (p.Key name) = refl
+not_ok (p.Reserved name) = refl
+not_ok (p.Unknown name) = refl
+not_ok p.TooMany = refl
+not_ok p.Size = refl
+not_ok p.Memory = refl

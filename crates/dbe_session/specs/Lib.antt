@@ -1,0 +1,7 @@
+pub mod Requests
+pub mod KeysRead
+pub mod QueriesRead
+pub mod Queries
+pub mod Texts
+pub mod Reply
+pub mod Steps

@@ -1,0 +1,101 @@
+-- What a line of the script asks for (this project's own).
+use Rattle.std.specs.Prelude.{ℕ, ◌==◌, ◌&&◌, Bool, false, List, codes, Option, Some, None, is_some, option_map, Result, Ok, Err, if◌then◌else◌}
+use Rattle.serde_json.specs.Data.{Data}
+use Rattle.serde_json.specs.Find.{get, as_str}
+use Rattle.dbe_values.specs.Val.{Val, Entries}
+use Rattle.dbe_values.specs.View.{attr_of, attributes_of}
+use Rattle.dbe_values.specs.declared.value.AttrValue.{AttrValue}
+use Rattle.dbe_values.specs.declared.fault.ItemFault.{ItemFault}
+use Rattle.dbe_values.specs.declared.fault.ItemFault.TheVariants.{NotObject, At}
+use Rattle.dbe_values.specs.declared.key.KeyName.{KeyName}
+use Rattle.dbe_values.specs.declared.key.KeySchema.{KeySchema}
+use Rattle.dbe_values.specs.declared.key.KeyValue.{KeyValue}
+use Rattle.dbe_values.specs.BranchIds.{is_branch_id}
+use Rattle.dbe_values.specs.Items.{item_in}
+use Rattle.dbe_values.specs.Json.{json_of, size_of}
+use Rattle.dbe_values.specs.Keys.{row_key}
+use Rattle.dbe_session.specs.Queries.{Asked, Faulty, has_form, asked_in}
+use Rattle.dbe_session.specs.declared.request.Query.{Query}
+use Rattle.dbe_session.specs.declared.request.Request.{Request}
+use Rattle.dbe_session.specs.declared.request.Request.TheVariants as r
+
+-- an item that is put, or the first fault of the walk through it
+abbrev pub put_in : Result Entries ItemFault → Request
+put_in (Ok es) = r.Put (attributes_of es)
+put_in (Err NotObject) = r.Shape
+put_in (Err (At name why)) = r.Value name why
+
+-- the key that values are
+abbrev pub key_value : Val × Option Val → KeyValue
+key_value k = record { partition = attr_of k.0; sort = option_map attr_of k.1 }
+
+abbrev pub with_key : (KeyValue → Request) → Result (Val × Option Val) (List ℕ) → Request
+with_key make (Ok k) = make (key_value k)
+with_key make (Err name) = r.Key name
+
+abbrev pub keyed_by : KeySchema → (KeyValue → Request) → Result Entries ItemFault → Request
+keyed_by schema make (Ok es) = with_key make (row_key schema (attributes_of es))
+keyed_by schema make (Err NotObject) = r.Shape
+keyed_by schema make (Err (At name why)) = r.Value name why
+
+abbrev pub has_member : List ℕ → Data → Bool
+has_member name d = is_some (get name d)
+
+abbrev pub has_sort : Option KeyName → Data → Bool
+has_sort None d = size_of d == 1
+has_sort (Some sort) d = size_of d == 2 && has_member sort.name d
+
+-- an object with just the key attributes
+abbrev pub is_key_object : KeySchema → Data → Bool
+is_key_object schema d = has_member schema.partition.name d && has_sort schema.sort d
+
+-- a key
+abbrev pub key_in : KeySchema → (KeyValue → Request) → Data → Request
+key_in schema make d = if is_key_object schema d then keyed_by schema make (item_in d) else r.Shape
+
+abbrev pub query_of : Asked → Query
+query_of a = record { text = a.text; names = a.names; values = a.values }
+
+abbrev pub asked_by : (Query → Request) → Result Asked Faulty → Request
+asked_by make (Ok a) = make (query_of a)
+asked_by make (Err f) = r.Value f.0 f.1
+
+-- a query
+abbrev pub query_in : Data → Request
+query_in d = if has_form d then asked_by r.Query (asked_in d) else r.Shape
+
+-- what explains a query
+abbrev pub explain_in : Data → Request
+explain_in d = if has_form d then r.NotBuilt else r.Shape
+
+abbrev pub is_id : Option (List ℕ) → Bool
+is_id None = false
+is_id (Some text) = is_branch_id text
+
+-- a branch id
+abbrev pub id_in : Data → Request
+id_in d = if is_id (as_str d) then r.NotBuilt else r.Shape
+
+-- the request of a member, where the object has it
+abbrev pub or_other : Option Data → (Data → Request) → Request → Request
+or_other None read other = other
+or_other (Some d) read other = read d
+
+-- an object with one member, which is one of the requests
+abbrev pub request_in : KeySchema → Option Data → Request
+request_in schema None = r.NotJson
+request_in schema (Some d) =
+    if size_of d == 1
+    then or_other (get (codes "put") d) (λ item. put_in (item_in item))
+    (or_other (get (codes "get") d) (key_in schema r.Get)
+    (or_other (get (codes "query") d) query_in
+    (or_other (get (codes "check") d) (key_in schema r.Check)
+    (or_other (get (codes "explain") d) explain_in
+    (or_other (get (codes "create") d) id_in
+    (or_other (get (codes "rotate") d) id_in
+    r.Shape))))))
+    else r.Shape
+
+-- what a line asks for
+abbrev pub request_of : KeySchema → List ℕ → Request
+request_of schema line = request_in schema (json_of line)

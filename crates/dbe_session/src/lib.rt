@@ -1,0 +1,12 @@
+//! The session: a line of the script to its reply.
+#![tactic(auto)]
+
+mod queries;
+mod request;
+mod requests;
+mod session;
+mod texts;
+
+pub use request::{Query, Request};
+pub use requests::read_request;
+pub use session::{Session, StepFault};

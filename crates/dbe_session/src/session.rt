@@ -1,0 +1,231 @@
+ghost use Rattle.std.specs.Prelude.{◌≡◌, ◌⊎◌, ◌≤◌, true, Some, Err, IfOk, OnErr, IsSome};
+ghost use Rattle.dbe_io.specs.Causes.{Rose};
+ghost use Rattle.dbe_values.specs.Keys.{is_lawful_key};
+ghost use Rattle.dbe_values.specs.KeyValues.{key_view};
+ghost use Rattle.dbe_cond.specs.Condition.{condition_of};
+ghost use Rattle.dbe_table.specs.Rows.{risen};
+ghost use Rattle.dbe_session.specs.declared.request.Request.TheVariants as r;
+ghost use Rattle.dbe_session.specs.Reply.{State, searched, reserved_in};
+ghost use Rattle.dbe_session.specs.Steps.{Answered, Undone, Replied, Kept, HasLawfulKey};
+
+use crate::texts::{
+    checked_text, cond_refusal, item_text, none_text, put_refusal, put_text, refused_name,
+    refused_name_for, refused_text, selected_text, value_refusal,
+};
+use crate::{Query, Request, read_request};
+use dbe_cond::{Cond, Wanted, first_name_with, read};
+use dbe_config::Config;
+use dbe_item::accepts;
+use dbe_num::Memory;
+use dbe_table::{Table, TableFault};
+use dbe_values::{Item, KeyValue};
+use std::alloc::Global;
+use std::marker::Model;
+
+/// Why a line got no reply.
+#[derive(Clone, Copy, Debug, PartialEq, Eq)]
+pub enum StepFault {
+    /// The table failed.
+    Table,
+    /// Memory ran out.
+    Memory,
+}
+
+impl From<Memory> for StepFault {
+    ghost use Rattle.dbe_session.specs.declared.session.StepFault.TheVariants as fault;
+
+    ghost from_gives = { λ _ e. e ≡ fault.Memory };
+
+    fn from(_: Memory) -> StepFault {
+        StepFault::Memory
+    }
+}
+
+/// A session over a table: its configuration.
+///
+/// Contracts see the configuration.
+#[derive(Drop)]
+pub struct Session {
+    alloc: Global,
+    config: Config,
+}
+
+impl Model for Session {
+    ghost use Rattle.dbe_config.specs.Setting.{Setting};
+
+    ghost Value = { Setting };
+
+    ghost view = { λ s. s.config };
+}
+
+impl Session {
+    pub fn new(alloc: Global, config: Config) -> Session
+        ensures { result ≡ config }
+    {
+        Session { alloc, config }
+    }
+
+    pub fn config(&self) -> &Config
+        ensures { result.now ≡ self.now }
+    {
+        &self.config
+    }
+
+    /// The reply to one line of a script, over a table that has begun with the configuration's keys. An empty line has
+    /// an empty one.
+    pub fn step<T: Table>(&self, line: &[u8], table: &mut T) -> Result<Vec<u8>, StepFault>
+        requires { T.begun table.old ≡ Some self.now.schema }
+        ensures ok { IfOk result (λ text. (s : State) → T.rows table.old ≡ Some s.rows → Answered self.now s line.now text.items (T.rows table.new) (T.given table.old) (T.given table.new)) }
+        ensures err { OnErr result ((s : State) → T.rows table.old ≡ Some s.rows → Undone self.now s line.now (T.rows table.new) (T.given table.old) (T.given table.new)) }
+        ensures begun { T.begun table.new ≡ T.begun table.old }
+        ensures later { T.faults table.old ≤ T.faults table.new }
+        ensures failed { result ≡ Err StepFault.Table → Rose (T.faults table.old) (T.faults table.new) }
+    {
+        if line.is_empty() {
+            return Ok(Vec::new(self.alloc));
+        }
+        let request = read_request(self.alloc, self.config.schema(), line)?;
+        reply_to(self.alloc, &self.config, table, request)
+    }
+}
+
+fn reply_to<T: Table>(
+    alloc: Global,
+    config: &Config,
+    table: &mut T,
+    request: Request,
+) -> Result<Vec<u8>, StepFault>
+    requires begun { T.begun table.old ≡ Some config.now.schema }
+    requires key { HasLawfulKey config.now request }
+    ensures ok { IfOk result (λ text. (s : State) → T.rows table.old ≡ Some s.rows → Replied config.now s request text.items (T.rows table.new) (T.given table.old) (T.given table.new)) }
+    ensures err { OnErr result ((s : State) → T.rows table.old ≡ Some s.rows → Kept config.now s request (T.rows table.new) (T.given table.old) (T.given table.new)) }
+    ensures begun { T.begun table.new ≡ T.begun table.old }
+    ensures later { T.faults table.old ≤ T.faults table.new }
+    ensures failed { result ≡ Err StepFault.Table → Rose (T.faults table.old) (T.faults table.new) }
+{
+    match request {
+        Request::NotJson => Ok(refused_text(alloc, "json")?),
+        Request::Shape => Ok(refused_text(alloc, "shape")?),
+        Request::NotBuilt => Ok(refused_text(alloc, "not built")?),
+        Request::Value { name, why } => Ok(value_refusal(alloc, name.as_str(), why)?),
+        Request::Key { name } => Ok(refused_name(alloc, "key", name.as_str())?),
+        Request::Put(item) => put(alloc, config, table, item),
+        Request::Get(key) => get(alloc, config, table, &key),
+        Request::Check(key) => check(alloc, config, table, &key),
+        Request::Query(query) => answer(alloc, config, table, &query),
+    }
+}
+
+// The reply is made first, so that a put whose reply can't be written is not made.
+fn put<T: Table>(
+    alloc: Global,
+    config: &Config,
+    table: &mut T,
+    item: Item,
+) -> Result<Vec<u8>, StepFault>
+    requires { T.begun table.old ≡ Some config.now.schema }
+    ensures ok { IfOk result (λ text. (s : State) → T.rows table.old ≡ Some s.rows → Replied config.now s (r.Put item) text.items (T.rows table.new) (T.given table.old) (T.given table.new)) }
+    ensures rows { OnErr result (T.rows table.new ≡ T.rows table.old) }
+    ensures given { T.given table.new ≡ T.given table.old }
+    ensures begun { T.begun table.new ≡ T.begun table.old }
+    ensures later { T.faults table.old ≤ T.faults table.new }
+    ensures failed { result ≡ Err StepFault.Table → Rose (T.faults table.old) (T.faults table.new) }
+{
+    match accepts(alloc, config, &item) {
+        Ok(()) => {}
+        Err(fault) => return Ok(put_refusal(alloc, &fault)?),
+    }
+    let text = put_text(alloc)?;
+    match table.put(item) {
+        Ok(()) => Ok(text),
+        Err(TableFault::Failed) => Err(StepFault::Table),
+        Err(TableFault::Memory) => Err(StepFault::Memory),
+    }
+}
+
+fn get<T: Table>(
+    alloc: Global,
+    config: &Config,
+    table: &mut T,
+    key: &KeyValue,
+) -> Result<Vec<u8>, StepFault>
+    requires begun { T.begun table.old ≡ Some config.now.schema }
+    requires key { is_lawful_key config.now.schema (key_view key.now) ≡ true }
+    ensures ok { IfOk result (λ text. (s : State) → T.rows table.old ≡ Some s.rows → Replied config.now s (r.Get key.now) text.items (T.rows table.new) (T.given table.old) (T.given table.new)) }
+    ensures err { OnErr result ((s : State) → T.rows table.old ≡ Some s.rows → Kept config.now s (r.Get key.now) (T.rows table.new) (T.given table.old) (T.given table.new)) }
+    ensures begun { T.begun table.new ≡ T.begun table.old }
+    ensures later { T.faults table.old ≤ T.faults table.new }
+    ensures failed { result ≡ Err StepFault.Table → Rose (T.faults table.old) (T.faults table.new) }
+{
+    match table.get(key) {
+        Ok(Some(item)) => Ok(item_text(alloc, &item)?),
+        Ok(None) => Ok(none_text(alloc)?),
+        Err(TableFault::Failed) => Err(StepFault::Table),
+        Err(TableFault::Memory) => Err(StepFault::Memory),
+    }
+}
+
+fn check<T: Table>(
+    alloc: Global,
+    config: &Config,
+    table: &mut T,
+    key: &KeyValue,
+) -> Result<Vec<u8>, StepFault>
+    requires begun { T.begun table.old ≡ Some config.now.schema }
+    requires key { is_lawful_key config.now.schema (key_view key.now) ≡ true }
+    ensures ok { IfOk result (λ text. (s : State) → T.rows table.old ≡ Some s.rows → Replied config.now s (r.Check key.now) text.items (T.rows table.new) (T.given table.old) (T.given table.new)) }
+    ensures err { OnErr result ((s : State) → T.rows table.old ≡ Some s.rows → Kept config.now s (r.Check key.now) (T.rows table.new) (T.given table.old) (T.given table.new)) }
+    ensures begun { T.begun table.new ≡ T.begun table.old }
+    ensures later { T.faults table.old ≤ T.faults table.new }
+    ensures failed { result ≡ Err StepFault.Table → Rose (T.faults table.old) (T.faults table.new) }
+{
+    match table.get(key) {
+        Ok(Some(_)) => Ok(checked_text(alloc)?),
+        Ok(None) => Ok(none_text(alloc)?),
+        Err(TableFault::Failed) => Err(StepFault::Table),
+        Err(TableFault::Memory) => Err(StepFault::Memory),
+    }
+}
+
+fn answer<T: Table>(
+    alloc: Global,
+    config: &Config,
+    table: &mut T,
+    query: &Query,
+) -> Result<Vec<u8>, StepFault>
+    requires { T.begun table.old ≡ Some config.now.schema }
+    ensures ok { IfOk result (λ text. (s : State) → T.rows table.old ≡ Some s.rows → Replied config.now s (r.Query query.now) text.items (T.rows table.new) (T.given table.old) (T.given table.new)) }
+    ensures err { OnErr result ((s : State) → T.rows table.old ≡ Some s.rows → Kept config.now s (r.Query query.now) (T.rows table.new) (T.given table.old) (T.given table.new)) }
+    ensures begun { T.begun table.new ≡ T.begun table.old }
+    ensures later { T.faults table.old ≤ T.faults table.new }
+    ensures failed { result ≡ Err StepFault.Table → Rose (T.faults table.old) (T.faults table.new) }
+{
+    match read(alloc, query.text.as_str(), &query.names, &query.values) {
+        Ok(cond) => search(alloc, table, cond),
+        Err(fault) => Ok(cond_refusal(alloc, &fault)?),
+    }
+}
+
+fn search<T: Table>(alloc: Global, table: &mut T, cond: Cond) -> Result<Vec<u8>, StepFault>
+    requires { IsSome (T.begun table.old) }
+    ensures ok { IfOk result (λ text. (s : State) → T.rows table.old ≡ Some s.rows → (text.items ≡ (searched s (condition_of cond) (reserved_in (condition_of cond))).text) × (T.given table.new ≡ risen (T.given table.old) (searched s (condition_of cond) (reserved_in (condition_of cond))).given)) }
+    ensures err { OnErr result ((s : State) → T.rows table.old ≡ Some s.rows → (T.given table.new ≡ T.given table.old) ⊎ (T.given table.new ≡ risen (T.given table.old) (searched s (condition_of cond) (reserved_in (condition_of cond))).given)) }
+    ensures same { T.rows table.new ≡ T.rows table.old }
+    ensures begun { T.begun table.new ≡ T.begun table.old }
+    ensures later { T.faults table.old ≤ T.faults table.new }
+    ensures failed { result ≡ Err StepFault.Table → Rose (T.faults table.old) (T.faults table.new) }
+{
+    if let Some(name) = first_name_with(&cond, "aws_dbe_") {
+        return Ok(refused_name_for(alloc, "rewriting", "NotSearchable", name.as_str())?);
+    }
+    let wanted = Wanted::Only(cond);
+    let found = table.select(&wanted);
+    let Wanted::Only(cond) = &wanted else {
+        unreachable!()
+    };
+    match found {
+        Ok(found) => Ok(selected_text(alloc, cond, &found)?),
+        Err(TableFault::Failed) => Err(StepFault::Table),
+        Err(TableFault::Memory) => Err(StepFault::Memory),
+    }
+}

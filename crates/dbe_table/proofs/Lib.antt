@@ -1,0 +1,4 @@
+mod Keyed
+mod Order
+mod Rising
+mod SameKeys

@@ -1,0 +1,9 @@
+//! Tables: rows under keys, in key order, and a table in memory.
+#![tactic(auto)]
+
+pub mod laws;
+mod mem_table;
+mod table;
+
+pub use mem_table::MemTable;
+pub use table::{Table, TableFault};

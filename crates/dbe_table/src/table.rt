@@ -1,0 +1,97 @@
+ghost use Rattle.std.specs.Prelude.{◌≡◌, ◌≤◌, ℕ, List, Some, None, true, Ok, IfSome, IfOk, OnOk, OnErr, IsSome, length};
+ghost use Rattle.std.specs.List.{All};
+ghost use Rattle.std.specs.declared.option.Option.{Option};
+ghost use Rattle.dbe_io.specs.Causes.{Rose};
+ghost use Rattle.dbe_values.specs.declared.key.KeySchema.{KeySchema};
+ghost use Rattle.dbe_values.specs.Keys.{has_key, is_lawful_key, row_key};
+ghost use Rattle.dbe_values.specs.KeyValues.{key_view};
+ghost use Rattle.dbe_table.specs.Rows.{Row, IsTable, put_row, row_at, wanted_rows, risen, found_count};
+
+use dbe_cond::Wanted;
+use dbe_num::Memory;
+use dbe_values::{Item, KeySchema, KeyValue};
+
+/// Why a table did not do what it was asked.
+#[derive(Clone, Copy, Debug, PartialEq, Eq)]
+pub enum TableFault {
+    /// The table failed.
+    Failed,
+    /// Memory ran out.
+    Memory,
+}
+
+impl From<Memory> for TableFault {
+    ghost use Rattle.std.specs.Prelude.{◌≡◌};
+    ghost use Rattle.dbe_table.specs.declared.table.TableFault.TheVariants as fault;
+
+    ghost from_gives = { λ _ e. e ≡ fault.Memory };
+
+    fn from(_: Memory) -> TableFault {
+        TableFault::Memory
+    }
+}
+
+/// Rows under keys, in key order.
+pub trait Table {
+    /// The rows that a `begin` with a schema tells, where the table tells them.
+    ghost coming: { Self → KeySchema → Option (List Row) };
+
+    /// The rows, from `begin` on, where the table tells them.
+    ghost rows: { Self → Option (List Row) };
+
+    /// The schema of the `begin` that was Ok.
+    ghost begun: { Self → Option KeySchema };
+
+    /// How many rows it has handed out. The count stays at its greatest value.
+    ghost given: { Self → ℕ };
+
+    /// How often it has failed. The count stays at its greatest value.
+    ghost faults: { Self → ℕ };
+
+    /// Begins, once and first. After a refusal the table need tell nothing.
+    fn begin(&mut self, schema: &KeySchema) -> Result<(), TableFault>
+        requires { begun self.old ≡ None }
+        ensures begun { OnOk result (begun self.new ≡ Some schema.now) }
+        ensures not_begun { OnErr result (begun self.new ≡ None) }
+        ensures rows { OnOk result (rows self.new ≡ coming self.old schema.now) }
+        ensures lawful { OnOk result (IfSome (rows self.new) (IsTable schema.now)) }
+        ensures given { given self.new ≡ given self.old }
+        ensures later { faults self.old ≤ faults self.new }
+        ensures failed { result ≡ Err TableFault.Failed → Rose (faults self.old) (faults self.new) };
+
+    /// Puts a row in place of the one of its key.
+    fn put(&mut self, row: Item) -> Result<(), TableFault>
+        requires begun { IsSome (begun self.old) }
+        requires key { IfSome (begun self.old) (λ schema. has_key schema row ≡ true) }
+        ensures begun { begun self.new ≡ begun self.old }
+        ensures rows { OnOk result (IfSome (begun self.old) (λ schema. IfSome (rows self.old) (λ before. rows self.new ≡ Some (put_row schema row before)))) }
+        ensures same { OnErr result (rows self.new ≡ rows self.old) }
+        ensures given { given self.new ≡ given self.old }
+        ensures later { faults self.old ≤ faults self.new }
+        ensures failed { result ≡ Err TableFault.Failed → Rose (faults self.old) (faults self.new) };
+
+    /// The row that has a key, or none where no row has it.
+    fn get(&mut self, key: &KeyValue) -> Result<Option<Item>, TableFault>
+        requires begun { IsSome (begun self.old) }
+        requires key { IfSome (begun self.old) (λ schema. is_lawful_key schema (key_view key.now) ≡ true) }
+        ensures begun { begun self.new ≡ begun self.old }
+        ensures found { IfOk result (λ found. IfSome (begun self.old) (λ schema. IfSome (rows self.old) (λ before. found ≡ row_at schema (key_view key.now) before))) }
+        ensures key { IfOk result (λ found. IfSome (begun self.old) (λ schema. IfSome found (λ row. row_key schema row ≡ Ok (key_view key.now)))) }
+        ensures same { rows self.new ≡ rows self.old }
+        ensures given { IfOk result (λ found. given self.new ≡ risen (given self.old) (found_count found)) }
+        ensures not_given { OnErr result (given self.new ≡ given self.old) }
+        ensures later { faults self.old ≤ faults self.new }
+        ensures failed { result ≡ Err TableFault.Failed → Rose (faults self.old) (faults self.new) };
+
+    /// The rows that are wanted, in key order.
+    fn select(&mut self, wanted: &Wanted) -> Result<Vec<Item>, TableFault>
+        requires { IsSome (begun self.old) }
+        ensures begun { begun self.new ≡ begun self.old }
+        ensures found { IfOk result (λ found. IfSome (rows self.old) (λ before. found.items ≡ wanted_rows wanted.now before)) }
+        ensures keys { IfOk result (λ found. IfSome (begun self.old) (λ schema. All (λ row. has_key schema row ≡ true) found.items)) }
+        ensures same { rows self.new ≡ rows self.old }
+        ensures given { IfOk result (λ found. given self.new ≡ risen (given self.old) (length found.items)) }
+        ensures not_given { OnErr result (given self.new ≡ given self.old) }
+        ensures later { faults self.old ≤ faults self.new }
+        ensures failed { result ≡ Err TableFault.Failed → Rose (faults self.old) (faults self.new) };
+}

@@ -1,0 +1,14 @@
+pub mod Known
+pub mod Views
+pub mod Unviewed
+pub mod SameValues
+pub mod Placing
+pub mod Elements
+pub mod ReadValues
+pub mod Members
+pub mod ReadItems
+pub mod NoFloats
+pub mod LawfulReads
+pub mod LawfulValues
+pub mod Lookups
+pub mod ReadAgain

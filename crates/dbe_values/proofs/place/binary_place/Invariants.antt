@@ -1,0 +1,14 @@
+use Rattle.std.proofs.Common.{◌≡◌, ℕ, ◌-◌, ◌<◌, ◌≤◌, [], length, get_or, Less, Greater}
+use Rattle.dbe_values.proofs.Placing.{order}
+use Rattle.dbe_values.proofs.place.binary_place.Given as goal
+
+abbrev pub invariant-loop-low : goal.invariant-loop-low
+invariant-loop-low l = record {
+  range : l.low ≤ l.high;
+  within : l.high ≤ length l.binaries;
+  below : (k : ℕ) → k < l.low → order l.binary (get_or l.binaries k []) ≡ Greater;
+  above : (k : ℕ) → l.high ≤ k → k < length l.binaries → order l.binary (get_or l.binaries k []) ≡ Less;
+}
+
+abbrev pub decreases-loop-low : goal.decreases-loop-low
+decreases-loop-low l = l.high - l.low

@@ -1,0 +1,13 @@
+pub mod Json
+pub mod Val
+pub mod View
+pub mod Sets
+pub mod Faults
+pub mod Reading
+pub mod Attributes
+pub mod Lawful
+pub mod BranchIds
+pub mod Writing
+pub mod Items
+pub mod Keys
+pub mod KeyValues
