@@ -1,12 +1,13 @@
 -- Where the reader of a script gave up.
 use Rattle.std.proofs.Common.{◌≡◌, ℕ, ◌+◌, ◌-◌, ◌<◌, ◌≤◌, ◌==◌, true, false, Bool, List, [], ◌∷◌, ◌++◌, length, Some, None, inl, inr, refl, sym, ap, ◌∙◌, subst, arith, append_assoc, append-nil, length-append, if◌then◌else◌}
+use Rattle.std.proofs.lemmas.Bool.{false≢true}
 use Rattle.std.specs.declared.option.Option.{Option}
 use Rattle.dbe_io.specs.declared.lines.LineFault.{LineFault}
 use Rattle.dbe_io.specs.declared.lines.LineFault.TheVariants as f
-use Rattle.dbe_io.specs.Lines.{onto, lines_of, ended_lines, first_piece, HasNone, IsTooLong, IsTooMuch}
+use Rattle.dbe_io.specs.Lines.{onto, lines_of, ended_lines, first_piece, IsTooLong, IsTooMuch, IsWhole}
 use Rattle.dbe_io.specs.Reading.{Reading, GaveUp, Stops, most_of}
 use Rattle.dbe_io.proofs.LineLaws.{ended_lines-open, IsTooLong-more, IsTooMuch-more}
-use Rattle.dbe.specs.Stops.{AreEndedIn, HasLongLine}
+use Rattle.dbe.specs.Stops.{HasLongLine}
 use Rattle.dbe.proofs.ReadSoFar.{AreDone, ReadSoFar, pulled_from}
 
 -- a reader that had answered no fault gives up for the first time
@@ -14,9 +15,10 @@ pub gave_up : (old new : Reading) (left left' : Option (List ℕ)) (fault : Line
 gave_up old new left left' fault none (inl stays) = let both : Some fault ≡ None = sym stays.fault_then ∙ none in (cc)
 gave_up old new left left' fault none (inr g) = g
 
-ended_or : (lines : List (List ℕ)) (front rest : List ℕ) → AreDone lines front rest → (rest ≡ [] → ⊥) → lines ≡ ended_lines front
-ended_or lines front rest (inl (d, w)) some = d
-ended_or lines front rest (inr (empty, d)) some = absurd (some empty)
+-- before the end the lines are those that newlines end
+ended_or : (lines : List (List ℕ)) (front rest : List ℕ) (ended : Bool) → AreDone lines front rest ended → ended ≡ false → (lines ≡ ended_lines front) × IsWhole front
+ended_or lines front rest ended (inl done) not_ended = done
+ended_or lines front rest ended (inr (is_ended, empty, d)) not_ended = absurd (false≢true (sym not_ended ∙ is_ended))
 
 -- what the reader holds and what is left are what was to come
 pub record Halted (limit total : ℕ) (bytes : List ℕ) (old new : Reading) (left' : Option (List ℕ)) (lines : List (List ℕ)) (p_front p_rest : List ℕ) : Type 0 where
@@ -34,12 +36,6 @@ halted limit total bytes old new left left' lines fault p g =
       rest_is = ap (λ l. old.held ++ l) pull.whole ∙ sym (append_assoc old.held g.moved pull.rest) ∙ ap (λ l. l ++ pull.rest) (sym g.held);
       most_is = omega (arith, p.taken, p.is_total);
     }
-
-long_some : (limit most : ℕ) (rest : List ℕ) → IsTooLong limit most rest → rest ≡ [] → ⊥
-long_some limit most rest long e = absurd (let none : length (first_piece rest) ≡ 0 = ap (λ l. length (first_piece l)) e in let past : limit < length (first_piece rest) = long.0 in omega arith)
-
-much_some : (limit most : ℕ) (rest : List ℕ) → IsTooMuch limit most rest → rest ≡ [] → ⊥
-much_some limit most rest much e = absurd (let none : length rest ≡ 0 = ap length e in let past : most < length rest = much.more in omega arith)
 
 -- the line that is to come is too long
 pub too_long : (limit total : ℕ) (bytes : List ℕ) (old new : Reading) (left left' : Option (List ℕ)) (lines : List (List ℕ))
@@ -66,33 +62,23 @@ too_much limit total bytes old new left left' lines p g =
 pub ended_before_long : (limit total : ℕ) (bytes : List ℕ) (old new : Reading) (left left' : Option (List ℕ)) (lines : List (List ℕ))
     → (p : ReadSoFar limit total bytes old left lines) → GaveUp old new left left' f.LineTooLong → lines ≡ ended_lines p.front
 ended_before_long limit total bytes old new left left' lines p g =
-    ended_or lines p.front (old.held ++ p.to_come) p.done (long_some limit (total - length p.front) (old.held ++ p.to_come) (too_long limit total bytes old new left left' lines p g))
+    (ended_or lines p.front (old.held ++ p.to_come) old.ended p.done g.not_ended).0
 
 pub ended_before_much : (limit total : ℕ) (bytes : List ℕ) (old new : Reading) (left left' : Option (List ℕ)) (lines : List (List ℕ))
     → (p : ReadSoFar limit total bytes old left lines) → GaveUp old new left left' f.TooMuch → lines ≡ ended_lines p.front
 ended_before_much limit total bytes old new left left' lines p g =
-    ended_or lines p.front (old.held ++ p.to_come) p.done (much_some limit (total - length p.front) (old.held ++ p.to_come) (too_much limit total bytes old new left left' lines p g))
-
-left_empty : (xs ys : List ℕ) → xs ++ ys ≡ [] → (xs ≡ []) × (ys ≡ [])
-left_empty [] ys e = (refl, e)
-left_empty (x ∷ xs) ys e = (cc)
-
-read_ended : (lines : List (List ℕ)) (front rest held left : List ℕ) → AreDone lines front rest → rest ≡ held ++ left → HasNone 10 held → AreEndedIn lines (front ++ held) left
-read_ended lines front rest held left (inl (d, w)) is none = inl (d ∙ sym (ended_lines-open front held w none))
-read_ended lines front rest held left (inr (empty, d)) is none =
-    let both = left_empty held left (sym is ∙ empty) in
-    inr (d ∙ ap lines_of (sym (append-nil front) ∙ ap (λ l. front ++ l) (sym both.0)), both.1)
+    (ended_or lines p.front (old.held ++ p.to_come) old.ended p.done g.not_ended).0
 
 -- the lines are those that end within the bytes taken
 pub read_stops : (limit total : ℕ) (bytes : List ℕ) (old new : Reading) (left left' : Option (List ℕ)) (lines : List (List ℕ))
     → (p : ReadSoFar limit total bytes old left lines) → (g : GaveUp old new left left' f.Read)
     → let h = halted limit total bytes old new left left' lines f.Read p g in
-    (taken : List ℕ) × (p.front ++ (old.held ++ p.to_come) ≡ taken ++ h.left) × AreEndedIn lines taken h.left
+    (taken : List ℕ) × (p.front ++ (old.held ++ p.to_come) ≡ taken ++ h.left) × (lines ≡ ended_lines taken)
 read_stops limit total bytes old new left left' lines p g =
     let h = halted limit total bytes old new left left' lines f.Read p g in (
       p.front ++ new.held,
       ap (λ l. p.front ++ l) h.rest_is ∙ sym (append_assoc p.front new.held h.left),
-      read_ended lines p.front (old.held ++ p.to_come) new.held h.left p.done h.rest_is g.cause.0,
+      (let done = ended_or lines p.front (old.held ++ p.to_come) old.ended p.done g.not_ended in done.0 ∙ sym (ended_lines-open p.front new.held done.1 g.cause.0)),
     )
 
 first_by : (b : ℕ) (piece : List ℕ) (rest : List (List ℕ)) (others : List (List ℕ)) (t : Bool) → rest ≡ piece ∷ others

@@ -1,5 +1,5 @@
 -- How far a script was read: the lines that were given, and what is to come.
-use Rattle.std.proofs.Common.{◌≡◌, ◌⊎◌, ℕ, ◌+◌, ◌<◌, ◌≤◌, true, List, [], ◌∷◌, ◌++◌, length, Vec, Some, None, inl, inr, refl, sym, ap, ◌∙◌, subst, arith, append_assoc, append-nil, length-append}
+use Rattle.std.proofs.Common.{◌≡◌, ◌⊎◌, ℕ, ◌+◌, ◌<◌, ◌≤◌, Bool, true, List, [], ◌∷◌, ◌++◌, length, Vec, Some, None, inl, inr, refl, sym, ap, ◌∙◌, subst, arith, append_assoc, append-nil, length-append}
 use Rattle.std.specs.declared.alloc.Global.{Global}
 use Rattle.std.specs.declared.option.Option.{Option}
 use Rattle.std.specs.List.{All}
@@ -9,9 +9,9 @@ use Rattle.dbe_io.specs.Lines.{lines_of, ended_lines, HasNone, IsWhole}
 use Rattle.dbe_io.specs.Reading.{Reading, Given, IsEndedLine, IsLastLine, Moved, most_of}
 use Rattle.dbe_io.proofs.LineLaws.{lines_of-ended, lines_of-last, lines_of-front, ended_lines-more, IsWhole-ended}
 
--- The lines are those that newlines end in the front, or all of them at the end.
-abbrev pub AreDone : List (List ℕ) → List ℕ → List ℕ → Type 0
-AreDone lines front rest = ((lines ≡ ended_lines front) × IsWhole front) ⊎ ((rest ≡ []) × (lines ≡ lines_of front))
+-- The lines are those that newlines end in the front, or all of them where the reader has ended.
+abbrev pub AreDone : List (List ℕ) → List ℕ → List ℕ → Bool → Type 0
+AreDone lines front rest ended = ((lines ≡ ended_lines front) × IsWhole front) ⊎ ((ended ≡ true) × (rest ≡ []) × (lines ≡ lines_of front))
 
 pub record ReadSoFar (limit total : ℕ) (bytes : List ℕ) (reader : Reading) (left : Option (List ℕ)) (lines : List (List ℕ)) : Type 0 where
   pub front : List ℕ
@@ -19,7 +19,7 @@ pub record ReadSoFar (limit total : ℕ) (bytes : List ℕ) (reader : Reading) (
   pub is_left : left ≡ Some to_come
   pub whole : bytes ≡ front ++ (reader.held ++ to_come)
   pub lines_are : lines_of bytes ≡ lines ++ lines_of (reader.held ++ to_come)
-  pub done : AreDone lines front (reader.held ++ to_come)
+  pub done : AreDone lines front (reader.held ++ to_come) reader.ended
   pub short : All (λ line. length line ≤ limit) lines
   pub within : length front ≤ total
   pub taken : reader.taken ≡ length front + length reader.held
@@ -68,10 +68,10 @@ no_empty : (v r : List ℕ) → v ++ 10 ∷ r ≡ [] → ⊥
 no_empty [] r e = (cc)
 no_empty (x ∷ v) r e = (cc)
 
-ended_done : (lines : List (List ℕ)) (front v rest shape : List ℕ) → AreDone lines front rest → rest ≡ v ++ 10 ∷ shape → HasNone 10 v
+ended_done : (lines : List (List ℕ)) (front v rest shape : List ℕ) (ended : Bool) → AreDone lines front rest ended → rest ≡ v ++ 10 ∷ shape → HasNone 10 v
     → (lines ++ v ∷ [] ≡ ended_lines ((front ++ v) ++ 10 ∷ [])) × IsWhole ((front ++ v) ++ 10 ∷ [])
-ended_done lines front v rest shape (inl (d, w)) is none = (ap (λ ls. ls ++ v ∷ []) d ∙ sym (ended_lines-more front v w none), IsWhole-ended (front ++ v))
-ended_done lines front v rest shape (inr (empty, d)) is none = absurd (no_empty v shape (sym is ∙ empty))
+ended_done lines front v rest shape ended (inl (d, w)) is none = (ap (λ ls. ls ++ v ∷ []) d ∙ sym (ended_lines-more front v w none), IsWhole-ended (front ++ v))
+ended_done lines front v rest shape ended (inr (is_ended, empty, d)) is none = absurd (no_empty v shape (sym is ∙ empty))
 
 more_ended : (limit total : ℕ) (bytes : List ℕ) (old new : Reading) (left left' : Option (List ℕ)) (lines : List (List ℕ)) (v moved : List ℕ)
     → (p : ReadSoFar limit total bytes old left lines) → Moved old new left left' moved → HasNone 10 v → IsEndedLine old.limit (most_of old) (old.held ++ moved) v new
@@ -90,7 +90,7 @@ more_ended limit total bytes old new left left' lines v moved p moves none e =
         is_left = pull.is_left;
         whole = p.whole ∙ ap (λ l. p.front ++ l) shape ∙ sym (append_assoc p.front v (10 ∷ (new.held ++ pull.rest))) ∙ sym (append_assoc (p.front ++ v) (10 ∷ []) (new.held ++ pull.rest));
         lines_are = p.lines_are ∙ ap (λ ls. lines ++ ls) first ∙ sym (append_assoc lines (v ∷ []) (lines_of (new.held ++ pull.rest)));
-        done = inl (ended_done lines p.front v (old.held ++ p.to_come) (new.held ++ pull.rest) p.done shape none);
+        done = inl (ended_done lines p.front v (old.held ++ p.to_come) (new.held ++ pull.rest) old.ended p.done shape none);
         short = All-push (λ line. length line ≤ limit) lines v p.short (omega (arith, e.short, p.is_limit));
         within = omega (arith, grown, e.within, p.taken, p.is_total, p.within);
         taken = omega (arith, grown, sizes, moves.taken, p.taken);
@@ -106,9 +106,9 @@ empty_left left' rest is end = let P : Option (List ℕ) → Type 0 = IsAtEnd in
 not_empty : (v : List ℕ) → 0 < length v → v ≡ [] → ⊥
 not_empty v some e = absurd (let none : length v ≡ 0 = ap length e in omega arith)
 
-last_done : (lines : List (List ℕ)) (front v rest : List ℕ) → AreDone lines front rest → rest ≡ v → HasNone 10 v → 0 < length v → lines ++ v ∷ [] ≡ lines_of (front ++ v)
-last_done lines front v rest (inl (d, w)) is none some = ap (λ ls. ls ++ v ∷ []) d ∙ ap (λ ls. ended_lines front ++ ls) (sym (lines_of-last v none some)) ∙ sym (lines_of-front front v w)
-last_done lines front v rest (inr (empty, d)) is none some = absurd (not_empty v some (sym is ∙ empty))
+last_done : (lines : List (List ℕ)) (front v rest : List ℕ) (ended : Bool) → AreDone lines front rest ended → rest ≡ v → HasNone 10 v → 0 < length v → lines ++ v ∷ [] ≡ lines_of (front ++ v)
+last_done lines front v rest ended (inl (d, w)) is none some = ap (λ ls. ls ++ v ∷ []) d ∙ ap (λ ls. ended_lines front ++ ls) (sym (lines_of-last v none some)) ∙ sym (lines_of-front front v w)
+last_done lines front v rest ended (inr (is_ended, empty, d)) is none some = absurd (not_empty v some (sym is ∙ empty))
 
 more_last : (limit total : ℕ) (bytes : List ℕ) (old new : Reading) (left left' : Option (List ℕ)) (lines : List (List ℕ)) (v moved : List ℕ)
     → (p : ReadSoFar limit total bytes old left lines) → Moved old new left left' moved → HasNone 10 v → IsLastLine old.limit (most_of old) (old.held ++ moved) v new → IsAtEnd left'
@@ -130,7 +130,7 @@ more_last limit total bytes old new left left' lines v moved p moves none e end 
         is_left = pull.is_left;
         whole = p.whole ∙ ap (λ l. p.front ++ l) shape ∙ sym (append-nil (p.front ++ v)) ∙ ap (λ l. (p.front ++ v) ++ l) (sym over);
         lines_are = p.lines_are ∙ ap (λ ls. lines ++ ls) first ∙ sym (append_assoc lines (v ∷ []) (lines_of (new.held ++ pull.rest)));
-        done = inr (over, last_done lines p.front v (old.held ++ p.to_come) p.done shape none e.some);
+        done = inr (e.ended, over, last_done lines p.front v (old.held ++ p.to_come) old.ended p.done shape none e.some);
         short = All-push (λ line. length line ≤ limit) lines v p.short (omega (arith, e.short, p.is_limit));
         within = omega (arith, grown, e.within, p.taken, p.is_total, p.within);
         taken = omega (arith, grown, sizes, held, moves.taken, p.taken);

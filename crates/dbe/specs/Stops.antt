@@ -25,10 +25,6 @@ abbrev pub AreRowsBefore : Setting → State → List (List ℕ) → Option (Lis
 AreRowsBefore c s [] rows = rows ≡ Some s.rows
 AreRowsBefore c s (line ∷ lines) rows = (rows ≡ Some s.rows) ⊎ IsAfter c s line rows
 
--- The lines are those that end within the bytes taken. A last line ends where the script does.
-abbrev pub AreEndedIn : List (List ℕ) → List ℕ → List ℕ → Type 0
-AreEndedIn lines taken left = (lines ≡ ended_lines taken) ⊎ ((lines ≡ lines_of taken) × (left ≡ []))
-
 -- a line of the bytes has more than 1,048,576 bytes
 pub record HasLongLine (bytes : List ℕ) : Type 0 where
   pub before : List (List ℕ)
@@ -44,7 +40,7 @@ StopsFor s.ScriptTooLong lines front rest left = (lines ≡ ended_lines front) �
 StopsFor s.Done lines front rest left = ⊥
 StopsFor s.Words lines front rest left = ⊥
 StopsFor (s.Config f) lines front rest left = ⊥
-StopsFor s.Read lines front rest left = (taken : List ℕ) × (front ++ rest ≡ taken ++ left) × AreEndedIn lines taken left
+StopsFor s.Read lines front rest left = (taken : List ℕ) × (front ++ rest ≡ taken ++ left) × (lines ≡ ended_lines taken)
 StopsFor s.Write lines front rest left = Unit {0}
 StopsFor s.Table lines front rest left = Unit {0}
 StopsFor s.Memory lines front rest left = Unit {0}

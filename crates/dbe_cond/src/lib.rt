@@ -22,3 +22,8 @@ pub use operand::Operand;
 pub use placeholders::{Names, Values};
 pub use reading::{one_reading, one_refusal, read, read_is_lawful};
 pub use wanted::{Wanted, wants};
+
+#[cfg(test)]
+mod meaning_tests;
+#[cfg(test)]
+mod read_tests;

@@ -13,6 +13,11 @@ pub HasNone-cons : (x : ℕ) (xs : List ℕ) → (x == 10) ≡ false → HasNone
 HasNone-cons x xs ne h zero lt e = let t : (x == 10) ≡ true = rw e refl in cc
 HasNone-cons x xs ne h (suc k) lt e = h k (omega arith) e
 
+-- a front of bytes without a newline has none
+pub HasNone-front : (xs ys : List ℕ) → HasNone 10 (xs ++ ys) → HasNone 10 xs
+HasNone-front [] ys h = λ k lt e. absurd (omega arith)
+HasNone-front (x ∷ xs) ys h = HasNone-cons x xs (HasNone-head x (xs ++ ys) h) (HasNone-front xs ys (HasNone-tail x (xs ++ ys) h))
+
 -- no newline stands before the first
 HasNone-first_if : (x : ℕ) (xs : List ℕ) (t : Bool) → (x == 10) ≡ t → HasNone 10 xs → HasNone 10 (if t then [] else x ∷ xs)
 HasNone-first_if x xs true e h = λ k lt is. absurd (omega arith)

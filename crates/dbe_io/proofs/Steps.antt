@@ -1,15 +1,16 @@
 -- The steps of one call of a reader of lines, one after another.
-use Rattle.std.proofs.Common.{◌≡◌, ◌≢◌, Vec, Result, Ok, Err, IfOk, OnOk, IfSome, IfNone, ℕ, ◌+◌, ◌<◌, ◌≤◌, ◌⊎◌, true, List, [], ◌∷◌, ◌++◌, length, Some, None, inl, inr, refl, sym, ap, subst, ◌∙◌, arith, append_assoc, append-nil, length-append}
+use Rattle.std.proofs.Common.{◌≡◌, ◌≢◌, Vec, Result, Ok, Err, IfOk, OnOk, IfSome, IfNone, ℕ, ◌+◌, ◌<◌, ◌≤◌, ◌⊎◌, true, false, List, [], ◌∷◌, ◌++◌, length, Some, None, inl, inr, refl, sym, ap, subst, ◌∙◌, arith, append_assoc, append-nil, length-append}
 use Rattle.std.specs.declared.option.Option.{Option}
 use Rattle.std.specs.declared.alloc.Global.{Global}
-use Rattle.std.specs.Io.KnownBytes.{Keeps}
+use Rattle.std.specs.Io.KnownBytes.{IsAtEnd, Keeps}
+use Rattle.std.proofs.lemmas.Bool.{false≢true}
 use Rattle.std.proofs.KnownBytes.{Consumes-nil, Consumes-trans, Consumes-kept}
 use Rattle.dbe_io.specs.declared.lines.LineFault.{LineFault}
 use Rattle.dbe_io.specs.declared.lines.LineFault.TheVariants.{Memory, Read}
 use Rattle.dbe_io.specs.Reading.{Reading, Given, IsCause, most_of}
 use Rattle.dbe_io.specs.Steps.{Took, Refused, IsLineAt, IsOpen}
 use Rattle.dbe_io.specs.Lines.{first_piece, HasNone}
-use Rattle.dbe_io.proofs.Pieces.{HasNone-first, HasNone-whole}
+use Rattle.dbe_io.proofs.Pieces.{HasNone-first, HasNone-front, HasNone-whole}
 
 pub Took-nothing : (r : Reading) (left : Option (List ℕ)) → Took r r left left
 Took-nothing r left = record {
@@ -17,7 +18,7 @@ Took-nothing r left = record {
   moves = record { gone = Consumes-nil left; taken = omega arith; limit = refl; total = refl };
   held = sym (append-nil r.held);
   fault_is = refl;
-  at_end = λ ended was. was ended;
+  ended_is = refl;
 }
 
 pub Took-trans : (a b c : Reading) (l l' l'' : Option (List ℕ)) → Took a b l l' → Took b c l' l'' → Took a c l l''
@@ -31,8 +32,12 @@ Took-trans a b c l l' l'' p q = record {
   };
   held = q.held ∙ ap (λ h. h ++ q.moved) p.held ∙ append_assoc a.held p.moved q.moved;
   fault_is = q.fault_is ∙ p.fault_is;
-  at_end = λ ended was. q.at_end ended (λ mid. p.at_end mid was);
+  ended_is = q.ended_is ∙ p.ended_is;
 }
+
+-- what was held before had no newline
+pub Took-open : (a b : Reading) (l l' : Option (List ℕ)) → Took a b l l' → IsOpen b → HasNone 10 a.held
+Took-open a b l l' p is_open = HasNone-front a.held p.moved (subst (HasNone 10) p.held (HasNone-whole b.held is_open.searched))
 
 -- what lies within the total stays the same
 pub Took-most : (a b : Reading) (l l' : Option (List ℕ)) → Took a b l l' → most_of b ≡ most_of a
@@ -48,6 +53,7 @@ Refused-here a b l l' fault p cause =
       moves = p.moves;
       held = p.held;
       fault_is = p.fault_is;
+      ended_is = p.ended_is;
       cause = subst (λ (limit : ℕ). Q limit (most_of a)) p.moves.limit (subst (Q b.limit) most cause);
     }
 
@@ -58,16 +64,17 @@ Refused-kept a b l l' l'' fault p kept = record {
   moves = record { gone = Consumes-kept l l' l'' p.moved p.moves.gone kept; taken = p.moves.taken; limit = p.moves.limit; total = p.moves.total };
   held = p.held;
   fault_is = p.fault_is;
+  ended_is = p.ended_is;
   cause = p.cause;
 }
 
 -- the reader gave a line that a newline ends
 pub Given-line : (old mid new : Reading) (l l' : Option (List ℕ)) (at : ℕ) (r : Result (Option (Vec ℕ Global)) LineFault)
-    → old.fault ≡ None → Took old mid l l' → IsLineAt mid at
+    → old.fault ≡ None → old.ended ≡ false → Took old mid l l' → IsLineAt mid at
     → IfOk r (λ line. line ≢ None) → IfOk r (λ line. IfSome line (λ v. mid.held ≡ v.items ++ 10 ∷ new.held)) → IfOk r (λ line. IfSome line (λ v. v.items ≡ first_piece mid.held))
     → OnOk r (new ≡ record mid { held = new.held }) → IfOk r (Given old new l l')
-Given-line old mid new l l' at (Ok None) no_fault p is_line some whole first same = absurd (some refl)
-Given-line old mid new l l' at (Ok (Some v)) no_fault p is_line some whole first same =
+Given-line old mid new l l' at (Ok None) no_fault unended p is_line some whole first same = absurd (some refl)
+Given-line old mid new l l' at (Ok (Some v)) no_fault unended p is_line some whole first same =
     let most : most_of mid ≡ most_of old = Took-most old mid l l' p in
     let size : length v.items ≡ at = ap length first ∙ is_line.ends.place in
     let short : at ≤ mid.limit = is_line.short in
@@ -91,16 +98,16 @@ Given-line old mid new l l' at (Ok (Some v)) no_fault p is_line some whole first
           within = omega arith;
         },
       );
-      at_end = λ ended was. p.at_end (sym (ap (λ (r : Reading). r.ended) same) ∙ ended) was;
+      at_end = λ is was. absurd (false≢true (sym (ap (λ (r : Reading). r.ended) same ∙ p.ended_is ∙ unended) ∙ is));
     }
-Given-line old mid new l l' at (Err fault) no_fault p is_line some whole first same = tt
+Given-line old mid new l l' at (Err fault) no_fault unended p is_line some whole first same = tt
 
 -- the reader gave the last piece, or none
 pub Given-last : (old mid new : Reading) (l l' : Option (List ℕ)) (r : Result (Option (Vec ℕ Global)) LineFault)
-    → old.fault ≡ None → Took old mid l l' → IsOpen mid → mid.ended ≡ true
+    → old.fault ≡ None → Took old mid l l' → IsOpen mid → IsAtEnd l'
     → IfOk r (λ line. IfNone line (mid.held ≡ [])) → IfOk r (λ line. IfSome line (λ v. (v.items ≡ mid.held) × (0 < length v.items)))
-    → OnOk r (new ≡ record mid { held = [] }) → IfOk r (Given old new l l')
-Given-last old mid new l l' (Ok None) no_fault p is_open ended none some same = record {
+    → OnOk r (new ≡ record mid { held = []; ended = true }) → IfOk r (Given old new l l')
+Given-last old mid new l l' (Ok None) no_fault p is_open end none some same = record {
   no_fault = no_fault;
   none_now = ap (λ (r : Reading). r.fault) same ∙ p.fault_is ∙ no_fault;
   moved = p.moved;
@@ -110,10 +117,10 @@ Given-last old mid new l l' (Ok None) no_fault p is_open ended none some same = 
     limit = ap (λ (r : Reading). r.limit) same ∙ p.moves.limit;
     total = ap (λ (r : Reading). r.total) same ∙ p.moves.total;
   };
-  given = (sym p.held ∙ none, ap (λ (r : Reading). r.held) same, ap (λ (r : Reading). r.ended) same ∙ ended);
-  at_end = λ is was. p.at_end ended was;
+  given = (sym p.held ∙ none, ap (λ (r : Reading). r.held) same, ap (λ (r : Reading). r.ended) same);
+  at_end = λ is was. end;
 }
-Given-last old mid new l l' (Ok (Some v)) no_fault p is_open ended none some same =
+Given-last old mid new l l' (Ok (Some v)) no_fault p is_open end none some same =
     let most : most_of mid ≡ most_of old = Took-most old mid l l' p in
     let size : length v.items ≡ length mid.held = ap length some.0 in
     let short : length mid.held ≤ mid.limit = is_open.short in
@@ -135,14 +142,14 @@ Given-last old mid new l l' (Ok (Some v)) no_fault p is_open ended none some sam
           whole = sym p.held ∙ sym some.0;
           some = some.1;
           none_left = ap (λ (r : Reading). r.held) same;
-          ended = ap (λ (r : Reading). r.ended) same ∙ ended;
+          ended = ap (λ (r : Reading). r.ended) same;
           short = omega arith;
           within = omega arith;
         },
       );
-      at_end = λ is was. p.at_end ended was;
+      at_end = λ is was. end;
     }
-Given-last old mid new l l' (Err fault) no_fault p is_open ended none some same = tt
+Given-last old mid new l l' (Err fault) no_fault p is_open end none some same = tt
 
 -- nothing that is held is a cause but want of memory and the source
 pub IsCause-open : (r : Reading) (fault : LineFault) → IsOpen r → (fault ≡ Memory) ⊎ (fault ≡ Read) → IsCause r.limit (most_of r) r.held fault

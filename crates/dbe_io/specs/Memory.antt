@@ -1,5 +1,5 @@
 -- What contracts see of a source and a sink in memory.
-use Rattle.std.specs.Prelude.{ℕ, ◌==◌, ◌+◌, ◌-◌, ◌^◌, min, Bool, List}
+use Rattle.std.specs.Prelude.{ℕ, ◌==◌, ◌+◌, ◌-◌, ◌^◌, min, Bool, List, if◌then◌else◌}
 use Rattle.std.specs.List.{list_any}
 
 -- a source in memory
@@ -24,6 +24,10 @@ pub record Taking : Type 0 where
 -- a count that stays at its greatest value
 abbrev pub one_more : ℕ → ℕ
 one_more n = min (n + 1) (2 ^ 64 - 1)
+
+-- a count of what has just happened, or not
+abbrev pub counted : Bool → ℕ → ℕ
+counted happened n = if happened then one_more n else n
 
 -- whether a plan lets this call fail
 abbrev pub fails_at : List ℕ → ℕ → Bool

@@ -1,5 +1,5 @@
 -- What contracts see of a reader of lines, and what one call of it does.
-use Rattle.std.specs.Prelude.{ℕ, ◌≡◌, ◌+◌, ◌-◌, ◌<◌, ◌≤◌, ◌⊎◌, Bool, true, List, [], ◌∷◌, ◌++◌, length, Vec, Some, None}
+use Rattle.std.specs.Prelude.{ℕ, ◌≡◌, ◌≢◌, ◌+◌, ◌-◌, ◌<◌, ◌≤◌, ◌⊎◌, Bool, true, false, List, [], ◌∷◌, ◌++◌, length, Vec, Some, None}
 use Rattle.std.specs.declared.alloc.Global.{Global}
 use Rattle.std.specs.declared.option.Option.{Option}
 use Rattle.std.specs.Io.KnownBytes.{Consumes, Keeps, IsAtEnd}
@@ -13,8 +13,19 @@ pub record Reading : Type 0 where
   pub total : ℕ  -- the most bytes of the source
   pub held : List ℕ  -- the bytes taken and not yet given
   pub taken : ℕ  -- how many bytes were taken
-  pub ended : Bool  -- whether the source has said that it is at its end
+  pub ended : Bool  -- whether all was given, to the source's end
   pub fault : Option LineFault  -- the fault that was answered
+
+-- What is always so of a reader. It takes at most one byte past its total, and holds at most one past its limit.
+pub record IsReading (r : Reading) : Type 0 where
+  pub given : r.taken ≤ r.total + length r.held
+  pub taken : r.taken ≤ r.total + 1
+  pub held : length r.held ≤ r.limit + 1
+  pub ended : r.ended ≡ true → (r.held ≡ []) × (r.fault ≡ None)
+
+-- A reader asks its source nothing where it has ended, has answered a fault, or holds a whole line.
+abbrev pub AsksNothing : Reading → Type 0
+AsksNothing r = (r.ended ≡ true) ⊎ ((r.fault ≢ None) ⊎ (¬ HasNone 10 r.held))
 
 -- how many bytes, from the first that is held, lie within the total
 abbrev pub most_of : Reading → ℕ
@@ -70,6 +81,7 @@ IsCause limit most held TooMuch = IsTooMuch limit most held
 -- a call that gave up, for the first time
 pub record GaveUp (old new : Reading) (left left' : Option (List ℕ)) (fault : LineFault) : Type 0 where
   pub no_fault : old.fault ≡ None
+  pub not_ended : old.ended ≡ false
   pub fault_now : new.fault ≡ Some fault
   pub moved : List ℕ
   pub moves : Moved old new left left' moved

@@ -1,5 +1,5 @@
 -- The steps of one call of a reader of lines.
-use Rattle.std.specs.Prelude.{ℕ, ◌≡◌, ◌+◌, ◌-◌, ◌<◌, ◌≤◌, true, List, ◌++◌, length, cond}
+use Rattle.std.specs.Prelude.{ℕ, ◌≡◌, ◌+◌, ◌-◌, ◌<◌, ◌≤◌, List, ◌++◌, length}
 use Rattle.std.specs.declared.option.Option.{Option}
 use Rattle.std.specs.Io.KnownBytes.{Consumes, IsAtEnd}
 use Rattle.dbe_io.specs.declared.lines.LineFault.{LineFault}
@@ -37,7 +37,7 @@ pub record Took (old new : Reading) (left left' : Option (List ℕ)) : Type 0 wh
   pub moves : Moved old new left left' moved
   pub held : new.held ≡ old.held ++ moved
   pub fault_is : new.fault ≡ old.fault
-  pub at_end : new.ended ≡ true → (old.ended ≡ true → IsAtEnd left) → IsAtEnd left'
+  pub ended_is : new.ended ≡ old.ended
 
 -- why a call gave up, before the reader keeps it
 pub record Refused (old new : Reading) (left left' : Option (List ℕ)) (fault : LineFault) : Type 0 where
@@ -45,8 +45,9 @@ pub record Refused (old new : Reading) (left left' : Option (List ℕ)) (fault :
   pub moves : Moved old new left left' moved
   pub held : new.held ≡ old.held ++ moved
   pub fault_is : new.fault ≡ old.fault
+  pub ended_is : new.ended ≡ old.ended
   pub cause : IsCause old.limit (most_of old) new.held fault
 
 -- how often the reader may still read
 abbrev pub reads_left : Reading → ℕ
-reads_left r = cond r.ended 0 (r.total + 2 - r.taken)
+reads_left r = r.total + 2 - r.taken

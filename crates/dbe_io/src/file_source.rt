@@ -1,4 +1,4 @@
-ghost use Rattle.std.specs.Prelude.{None};
+ghost use Rattle.std.specs.Prelude.{◌≡◌, None};
 
 use crate::{Failed, Source};
 use std::fs::Files;
@@ -22,7 +22,9 @@ pub struct FileSource<F> {
 impl<F: Read + Drop> FileSource<F> {
     /// A missing file is empty where `absent_is_empty`. Of any other file that does not open each
     /// read fails.
-    pub fn new<R: Files<File = F>>(rt: &R, name: &str, absent_is_empty: bool) -> FileSource<F> {
+    pub fn new<R: Files<File = F>>(rt: &R, name: &str, absent_is_empty: bool) -> FileSource<F>
+        ensures { ⟦<FileSource<F> as Source>⟧.faults result ≡ 0 }
+    {
         let opened = match std::fs::open(rt, name) {
             Ok(file) => Opened::File(file),
             Err(e) if absent_is_empty && e.kind() == ErrorKind::NotFound => Opened::Empty,

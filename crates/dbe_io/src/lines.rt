@@ -1,8 +1,8 @@
-ghost use Rattle.std.specs.Prelude.{◌≡◌, ◌≢◌, ◌≤◌, ◌<◌, ◌⊎◌, ◌++◌, ◌∷◌, [], length, true, false, IfOk, IfErr, OnOk, OnErr, OnSome, IfSome, IfNone, IsErrOf, Some, None, MatchOption};
-ghost use Rattle.std.specs.Io.KnownBytes.{Keeps};
+ghost use Rattle.std.specs.Prelude.{◌≡◌, ◌≢◌, ◌≤◌, ◌<◌, ◌⊎◌, ◌++◌, ◌∷◌, [], length, true, false, Ok, IfOk, IfErr, OnOk, OnErr, OnSome, IfSome, IfNone, IsErrOf, Some, None, MatchOption};
+ghost use Rattle.std.specs.Io.KnownBytes.{IsAtEnd, Keeps};
 ghost use Rattle.dbe_io.specs.Causes.{Rose};
-ghost use Rattle.dbe_io.specs.Lines.{first_piece};
-ghost use Rattle.dbe_io.specs.Reading.{Given, Stops, IsCause, budget, most_of};
+ghost use Rattle.dbe_io.specs.Lines.{first_piece, HasNone};
+ghost use Rattle.dbe_io.specs.Reading.{AsksNothing, Given, IsReading, Stops, IsCause, budget, most_of};
 ghost use Rattle.dbe_io.specs.Steps.{IsLineAt, IsOpen, Took, Refused, reads_left};
 
 use crate::Source;
@@ -36,15 +36,15 @@ pub struct LineReader {
 }
 
 impl Model for LineReader {
-    ghost use Rattle.dbe_io.specs.Reading.{Reading};
+    ghost use Rattle.dbe_io.specs.Reading.{Reading, IsReading};
 
     ghost Value = { Reading };
 
-    ghost use Rattle.std.specs.Prelude.{◌+◌, ◌≤◌, length};
+    ghost use Rattle.std.specs.Prelude.{◌+◌, length};
 
     ghost view = { λ r. record { limit = r.limit; total = r.total; held = r.held; taken = r.given + length r.held; ended = r.ended; fault = r.fault } };
 
-    ghost invariant = { λ r. r.given ≤ r.total };
+    ghost invariant = { λ r. IsReading (record { limit = r.limit; total = r.total; held = r.held; taken = r.given + length r.held; ended = r.ended; fault = r.fault }) };
 }
 
 impl LineReader {
@@ -63,16 +63,23 @@ impl LineReader {
     }
 
     /// The next line without its newline, and none at the end. A last piece without a newline is a
-    /// line. After a fault each later call answers the same fault.
+    /// line. After a fault each later call answers the same fault. The source is asked only where no
+    /// whole line is held, and not again at its end or after a fault.
     pub fn next<S: Source>(&mut self, source: &mut S) -> Result<Option<Vec<u8>>, LineFault>
         ensures line { IfOk result (Given self.old self.new (S.left source.old) (S.left source.new)) }
         ensures stop { IfErr result (Stops self.old self.new (S.left source.old) (S.left source.new)) }
         ensures shrinks { IfOk result (λ line. OnSome line (budget self.new < budget self.old)) }
         ensures later { S.faults source.old ≤ S.faults source.new }
         ensures read { IsErrOf result LineFault.Read → (self.old.fault ≡ Some LineFault.Read) ⊎ Rose (S.faults source.old) (S.faults source.new) }
+        ensures ended { self.old.ended ≡ true → (result ≡ Ok None) × (self.new ≡ self.old) }
+        ensures unasked { AsksNothing self.old → source.new ≡ source.old }
+        ensures within { IsReading self.new }
     {
         if let Some(fault) = self.fault {
             return Err(fault);
+        }
+        if self.ended {
+            return Ok(None);
         }
         match self.seek(source) {
             Ok(line) => Ok(line),
@@ -85,22 +92,23 @@ impl LineReader {
 
     // The next line, read on until it ends.
     fn seek<S: Source>(&mut self, source: &mut S) -> Result<Option<Vec<u8>>, LineFault>
-        requires { self.old.fault ≡ None }
+        requires no_fault { self.old.fault ≡ None }
+        requires not_ended { self.old.ended ≡ false }
         ensures line { IfOk result (Given self.old self.new (S.left source.old) (S.left source.new)) }
         ensures refused { IfErr result (Refused self.old self.new (S.left source.old) (S.left source.new)) }
         ensures shrinks { IfOk result (λ line. OnSome line (budget self.new < budget self.old)) }
         ensures later { S.faults source.old ≤ S.faults source.new }
         ensures read { IsErrOf result LineFault.Read → Rose (S.faults source.old) (S.faults source.new) }
+        ensures unasked { ¬ HasNone 10 self.old.held → source.new ≡ source.old }
     {
         'pieces: loop {
             if let Some(at) = self.newline()? {
                 return self.take_line(at);
             }
-            if self.ended {
-                return self.take_last();
-            }
-            if let Err(fault) = self.refill(source) {
-                return Err(fault);
+            match self.refill(source) {
+                Ok(false) => {}
+                Ok(true) => return self.take_last(),
+                Err(fault) => return Err(fault),
             }
         }
     }
@@ -125,7 +133,8 @@ impl LineReader {
 
     // The line that ends at a place.
     fn take_line(&mut self, at: usize) -> Result<Option<Vec<u8>>, LineFault>
-        requires { IsLineAt self.old at }
+        requires line { IsLineAt self.old at }
+        requires not_ended { self.old.ended ≡ false }
         ensures some { IfOk result (λ line. line ≢ None) }
         ensures line { IfOk result (λ line. IfSome line (λ v. self.old.held ≡ v.items ++ 10 ∷ self.new.held)) }
         ensures first { IfOk result (λ line. IfSome line (λ v. v.items ≡ first_piece self.old.held)) }
@@ -140,43 +149,48 @@ impl LineReader {
         Ok(Some(line))
     }
 
-    // The last piece, where it has bytes.
+    // The last piece, where it has bytes, at the end of the source.
     fn take_last(&mut self) -> Result<Option<Vec<u8>>, LineFault>
-        requires { IsOpen self.old }
+        requires open { IsOpen self.old }
+        requires no_fault { self.old.fault ≡ None }
         ensures none { IfOk result (λ line. IfNone line (self.old.held ≡ [])) }
         ensures some { IfOk result (λ line. IfSome line (λ v. (v.items ≡ self.old.held) × (0 < length v.items))) }
-        ensures same { OnOk result (self.new ≡ record self.old { held = [] }) }
+        ensures same { OnOk result (self.new ≡ record self.old { held = []; ended = true }) }
         ensures err { OnErr result (self.new ≡ self.old) }
         ensures memory { IfErr result (λ fault. fault ≡ LineFault.Memory) }
     {
         let length = self.held.len();
         if length == 0 {
+            self.ended = true;
             return Ok(None);
         }
         let Ok(line) = self.held.take_all() else {
             return Err(LineFault::Memory);
         };
         self.given += length as u64;
+        self.ended = true;
         Ok(Some(line))
     }
 
-    // Reads on.
-    fn refill<S: Source>(&mut self, source: &mut S) -> Result<(), LineFault>
+    // Reads on, and answers whether the source is at its end. No more is held than one byte past the
+    // limit, and no more is taken than one past the total.
+    fn refill<S: Source>(&mut self, source: &mut S) -> Result<bool, LineFault>
         requires open { IsOpen self.old }
         requires not_ended { self.old.ended ≡ false }
         ensures took { OnOk result (Took self.old self.new (S.left source.old) (S.left source.new)) }
-        ensures fewer { OnOk result (reads_left self.new < reads_left self.old) }
+        ensures end { IfOk result (λ end. end ≡ true → (self.new ≡ self.old) × IsAtEnd (S.left source.new)) }
+        ensures fewer { IfOk result (λ end. end ≡ false → reads_left self.new < reads_left self.old) }
         ensures same { OnErr result (self.new ≡ self.old) }
         ensures kept { OnErr result (Keeps (S.left source.old) (S.left source.new)) }
         ensures later { S.faults source.old ≤ S.faults source.new }
         ensures read { IsErrOf result LineFault.Read → Rose (S.faults source.old) (S.faults source.new) }
         ensures causes { IfErr result (λ fault. (fault ≡ LineFault.Memory) ⊎ (fault ≡ LineFault.Read)) }
     {
-        let spare = self.total - self.given - self.held.len() as u64;
-        let most = (spare as usize).saturating_add(1);
+        let held = self.held.len();
+        let spare = (self.total - self.given - held as u64) as usize;
+        let most = spare.min(self.limit - held).saturating_add(1);
         let count = self.held.refill(most, source)?;
-        self.ended = count == 0;
-        Ok(())
+        Ok(count == 0)
     }
 }
 
@@ -270,6 +284,23 @@ mod tests {
                 let shown = answers(rt.alloc(), &mut reader, &mut source, 3)?;
                 assert_eq!(rt; shown.as_slice(), wanted);
             }
+        }
+        Ok(())
+    }
+
+    #[test]
+    fn takes_one_byte_past_a_limit(rt: HostRuntime) -> Result<(), Fail> {
+        let cases: [(usize, u64, &[u8], &[u8]); 3] = [
+            (2, 100, b"L", b"defgh"),
+            (100, 4, b"T", b"fgh"),
+            (100, 100, b"<abcdefgh>", b""),
+        ];
+        for (limit, total, wanted, left) in cases {
+            let mut source = MemSource::new(b"abcdefgh".to_vec(rt.alloc())?, Vec::new(rt.alloc()));
+            let mut reader = LineReader::new(rt.alloc(), limit, total)?;
+            let shown = answers(rt.alloc(), &mut reader, &mut source, 1)?;
+            assert_eq!(rt; shown.as_slice(), wanted);
+            assert_eq!(rt; source.left(), left);
         }
         Ok(())
     }

@@ -1,6 +1,6 @@
-ghost use Rattle.std.specs.Prelude.{◌≡◌, ◌-◌, ◌≤◌, [], Some, true, false, length, min, is_ok, is_err, IfOk};
+ghost use Rattle.std.specs.Prelude.{◌≡◌, ◌≢◌, ◌⊎◌, ◌-◌, ◌≤◌, ◌<◌, [], Some, Ok, true, false, length, min, is_ok, is_err, IfOk, OnErr};
 ghost use Rattle.dbe_io.specs.Causes.{HasCause, TookNothing};
-ghost use Rattle.dbe_io.specs.Memory.{fails_at, one_more};
+ghost use Rattle.dbe_io.specs.Memory.{counted, fails_at, one_more};
 ghost use Rattle.dbe_io.specs.Prefix.{Takes};
 
 use crate::{Failed, Sink};
@@ -88,7 +88,11 @@ impl Sink for MemSink {
         ensures unfinished { self.new.finished ≡ false }
         ensures calls { self.new.calls ≡ one_more self.old.calls }
         ensures planned { is_err result ≡ fails_at self.old.fails self.new.calls }
-        ensures plan { self.new.fails ≡ self.old.fails }
+        ensures same { self.new ≡ record self.old { written = self.new.written; calls = self.new.calls; faults = self.new.faults; idle = self.new.idle; finished = self.new.finished } }
+        ensures faults { self.new.faults ≡ counted (is_err result) self.old.faults }
+        ensures idled { result ≡ Ok 0 → 0 < length piece.now → self.new.idle ≡ one_more self.old.idle }
+        ensures not_idled { (result ≢ Ok 0) ⊎ (length piece.now ≡ 0) → self.new.idle ≡ self.old.idle }
+        ensures failed { OnErr result (self.new.written ≡ self.old.written) }
         ensures count { IfOk result (λ n. n ≡ min (min (length piece.now) self.old.most) (self.old.room - length self.old.written)) }
     {
         self.finished = false;
@@ -115,7 +119,8 @@ impl Sink for MemSink {
         ensures finished { self.new.finished ≡ is_ok result }
         ensures calls { self.new.calls ≡ one_more self.old.calls }
         ensures planned { is_err result ≡ fails_at self.old.fails self.new.calls }
-        ensures plan { self.new.fails ≡ self.old.fails }
+        ensures same { self.new ≡ record self.old { calls = self.new.calls; faults = self.new.faults; finished = self.new.finished } }
+        ensures faults { self.new.faults ≡ counted (is_err result) self.old.faults }
     {
         self.calls = self.calls.saturating_add(1);
         self.finished = !self.fails.contains(&self.calls);

@@ -2,7 +2,7 @@ ghost use Rattle.std.specs.Prelude.{◌≡◌, ◌<◌, ◌≤◌, Some, length,
 ghost use Rattle.std.specs.Io.{ReadsAtMost};
 ghost use Rattle.std.specs.Io.KnownBytes.{ReadConsumes};
 ghost use Rattle.dbe_io.specs.Causes.{HasCause};
-ghost use Rattle.dbe_io.specs.Memory.{fails_at, one_more};
+ghost use Rattle.dbe_io.specs.Memory.{counted, fails_at, one_more};
 
 use crate::{Failed, Source};
 use std::marker::Model;
@@ -72,7 +72,8 @@ impl Source for MemSource {
         ensures cause { HasCause self.old.faults self.new.faults result }
         ensures calls { self.new.calls ≡ one_more self.old.calls }
         ensures planned { is_err result ≡ fails_at self.old.fails self.new.calls }
-        ensures plan { self.new.fails ≡ self.old.fails }
+        ensures same { self.new ≡ record self.old { left = self.new.left; calls = self.new.calls; faults = self.new.faults } }
+        ensures faults { self.new.faults ≡ counted (is_err result) self.old.faults }
         ensures count { IfOk result (λ n. n ≡ min (min (length self.old.left) (length out.new)) self.old.most) }
     {
         self.calls = self.calls.saturating_add(1);

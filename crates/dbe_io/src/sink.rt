@@ -1,4 +1,4 @@
-ghost use Rattle.std.specs.Prelude.{◌≡◌, ◌≤◌, List, ℕ, Bool, false, length, is_ok, IfOk, OnOk, IsErrOf};
+ghost use Rattle.std.specs.Prelude.{◌≡◌, ◌≤◌, ◌<◌, List, ℕ, Bool, false, length, is_ok, IsOk, IfOk, OnOk, IsErrOf};
 ghost use Rattle.std.specs.Io.KnownBytes.{Appends};
 ghost use Rattle.std.specs.declared.option.Option.{Option};
 ghost use Rattle.dbe_io.specs.Causes.{HasCause, Rose, TookNothing};
@@ -45,7 +45,8 @@ pub enum WriteFault {
     TookNothing,
 }
 
-/// Writes all the bytes, or a front of them where it answers a fault. Takes no memory.
+/// Writes all the bytes, or a front of them where it answers a fault. Takes no memory, and asks the
+/// sink nothing where there are no bytes.
 pub fn write_all<O: Sink>(sink: &mut O, bytes: &[u8]) -> Result<(), WriteFault>
     ensures ok { OnOk result (Appends (O.written sink.old) (O.written sink.new) bytes.now) }
     ensures prefix { AppendsPrefix (O.written sink.old) (O.written sink.new) bytes.now }
@@ -53,6 +54,8 @@ pub fn write_all<O: Sink>(sink: &mut O, bytes: &[u8]) -> Result<(), WriteFault>
     ensures idle_later { O.idle sink.old ≤ O.idle sink.new }
     ensures failed { IsErrOf result WriteFault.Failed → Rose (O.faults sink.old) (O.faults sink.new) }
     ensures took_nothing { IsErrOf result WriteFault.TookNothing → Rose (O.idle sink.old) (O.idle sink.new) }
+    ensures unfinished { 0 < length bytes.now → O.finished sink.new ≡ false }
+    ensures no_bytes { length bytes.now ≡ 0 → IsOk result × (sink.new ≡ sink.old) }
 {
     let mut at = 0;
     'pieces: while at < bytes.len() {

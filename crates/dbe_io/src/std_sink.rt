@@ -1,4 +1,4 @@
-ghost use Rattle.std.specs.Prelude.{None};
+ghost use Rattle.std.specs.Prelude.{◌≡◌, None, false};
 
 use crate::{Failed, Sink};
 use std::io::Print;
@@ -14,7 +14,11 @@ pub struct StdSink<P> {
 
 impl<P: Print> StdSink<P> {
     /// Prints by the runtime, or by its standard output.
-    pub fn new(out: P) -> StdSink<P> {
+    pub fn new(out: P) -> StdSink<P>
+        ensures faults { ⟦<StdSink<P> as Sink>⟧.faults result ≡ 0 }
+        ensures idle { ⟦<StdSink<P> as Sink>⟧.idle result ≡ 0 }
+        ensures finished { ⟦<StdSink<P> as Sink>⟧.finished result ≡ false }
+    {
         StdSink {
             out,
             faults: 0,

@@ -1,4 +1,4 @@
-ghost use Rattle.std.specs.Prelude.{None};
+ghost use Rattle.std.specs.Prelude.{◌≡◌, None};
 
 use crate::{Failed, Source};
 use std::io::{Input, Read};
@@ -11,7 +11,9 @@ pub struct StdSource<I> {
 }
 
 impl<I: Read + Drop> StdSource<I> {
-    pub fn new<R: Input<Reader = I>>(rt: &R) -> StdSource<I> {
+    pub fn new<R: Input<Reader = I>>(rt: &R) -> StdSource<I>
+        ensures { ⟦<StdSource<I> as Source>⟧.faults result ≡ 0 }
+    {
         StdSource {
             input: rt.reader(),
             faults: 0,

@@ -1,4 +1,4 @@
-use Rattle.std.proofs.Common.{length, take, ◌-◌, ◌≤◌}
+use Rattle.std.proofs.Common.{◌≡◌, false, length, take, ◌-◌, ◌≤◌, ◌<◌}
 use Rattle.std.specs.Io.KnownBytes.{Appends}
 use Rattle.dbe_io.proofs.sink.write_all.Given as goal
 
@@ -7,6 +7,8 @@ invariant-pieces g l = record {
   within : l.at ≤ length l.bytes;
   front : Appends (g.O.Sink.written l.fn.sink) (g.O.Sink.written l.sink) (take l.at l.bytes);
   later : g.O.Sink.faults l.fn.sink ≤ g.O.Sink.faults l.sink;
+  unfinished : 0 < l.at → g.O.Sink.finished l.sink ≡ false;
+  untouched : l.at ≡ 0 → l.sink ≡ l.fn.sink;
   idle_later : g.O.Sink.idle l.fn.sink ≤ g.O.Sink.idle l.sink;
 }
 
