@@ -19,7 +19,8 @@ NUMBERS = [
     "1e-130", "1e-131", "9" * 38, "9" * 39, "123456789012345678901234567890", "1e", "x", "", " 1", "1" + "0" * 125, "1e99999999999999999999",
     "0e99999999999999999999", "1e-" + "0" * 40 + "2", "0." + "0" * 129 + "1", "\u0661",
 ]
-TEXTS = ["", "x", "xy", "y", "X", "é", "z\x00", '"q"', "\\", "\x1f", "\x7f", "😀", "x y", "a/b", "\u2028", "\ufeff"]
+TEXTS = ["a/xb/", "x/y", "/", "Kk", "kxk", "ab/Éé/c",
+    "", "x", "xy", "y", "X", "é", "z\x00", '"q"', "\\", "\x1f", "\x7f", "😀", "x y", "a/b", "\u2028", "\ufeff"]
 BINARIES = ["", "AQ==", "AQI=", "Ag==", "AA==", "/+8=", "////", "AQIDBA==", "AB==", "_-8=", "AQ", "A===", "AQ==AQ==", "AQ ="]
 SCALARS = {"S": TEXTS, "N": NUMBERS, "B": BINARIES}
 NO_VALUES = [
@@ -32,6 +33,8 @@ NO_REQUESTS = [
     b'{"get":{"p":{"S":"k"},"s":{"N":"1"}},"get":{"p":{"S":"l"},"s":{"N":"1"}}}', b'{"put":{"p":{"S":"\\ud800"},"s":{"N":"1"}}}',
 ]
 NAMES = [*"abcdef", "p", "s", "x_1", "none", "begins"]
+COMPUTED = [*"vwz", "x_w", "place", "both"]
+FRONTS = ["V-", "V-X", "A-x/", "x", "S-1kB", "S-1kBa", "S-", "a/b", "xé", "X/", "1", "x1x"]
 SIGNS = [
     " ( ", " ) ", " AND ", " OR ", " NOT ", " IN ", " BETWEEN ", ",", " = ", " a ", " :a ", " #a ", " begins_with ", " attribute_exists ", "!", "-",
     "é", "#", ":", "<", ">",
@@ -101,8 +104,10 @@ class Scripts:
         item = self.key(0.03)
         for name in self.random.sample("abcdef", self.random.randint(0, 4)):
             item[name] = self.shared(0.01)
+        if self.chance(0.3):
+            item[self.one_of("abf")] = {"S": self.one_of(TEXTS)}
         if self.chance(0.1):
-            item["x_1"] = self.shared(0.01)
+            item[self.one_of(["x_1", "x_w"])] = self.shared(0.01)
         if self.chance(0.05):
             item[self.one_of(["g", "aws_dbe_x", "aws_db", "x_", "X_1", "", "n" * 255, "n" * 256, "x_" + "é" * 126, "x_" + "é" * 127])] = self.value(2, 0.1)
         if self.chance(0.002):
@@ -114,14 +119,16 @@ class Scripts:
         return {"put": dict(members)}
 
     def operand(self, names, values):
-        if self.chance(0.45):
+        if self.chance(0.06):
+            return self.one_of(COMPUTED)
+        if self.chance(0.42):
             return self.one_of(NAMES)
         if self.chance(0.75):
             placeholder = ":" + self.one_of("abcdefgh")
             values.setdefault(placeholder, self.shared(0.005))
             return placeholder
         placeholder = "#" + self.one_of("abc")
-        names.setdefault(placeholder, self.one_of(NAMES + ["IN", "aws_dbe_q"] if self.chance(0.05) else NAMES))
+        names.setdefault(placeholder, self.one_of(NAMES + COMPUTED + ["IN", "aws_dbe_q"] if self.chance(0.05) else NAMES))
         return placeholder
 
     def name(self, names, values):
@@ -146,7 +153,16 @@ class Scripts:
             return self.condition(levels - 1, names, values) + self.word(self.one_of(["AND", "OR"])) + self.condition(levels - 1, names, values)
         return self.test(names, values)
 
+    # A test of a virtual field or a compound.
+    def computed_test(self, values):
+        placeholder = ":" + self.one_of("ij")
+        values[placeholder] = {"S": self.one_of(TEXTS + FRONTS)}
+        name = self.one_of(COMPUTED)
+        return self.one_of([f"begins_with({name}, {placeholder})", f"{name} = {placeholder}", f"{placeholder} <= {name}", f"{name} IN ({placeholder}, a)"])
+
     def test(self, names, values):
+        if self.chance(0.05):
+            return self.computed_test(values)
         form = self.random.random()
         one = self.operand(names, values)
         if form < 0.5:
@@ -199,7 +215,7 @@ class Scripts:
             query["values"] = values
         if self.chance(0.01):
             query["more"] = 1
-        return {"query": query}
+        return {"explain" if self.chance(0.15) else "query": query}
 
     def line(self):
         form = self.random.random()
@@ -238,7 +254,7 @@ def without_doubles(kind, elements):
 def kind_of(reply):
     if "refused" in reply:
         return " ".join(reply[member] for member in ("refused", "why") if member in reply)
-    return next(member for member in ("ok", "item", "none", "checked", "count") if member in reply)
+    return next(member for member in ("ok", "item", "none", "checked", "count", "condition", "every") if member in reply)
 
 
 def main(program, seed=1, size=2000):

@@ -37,9 +37,7 @@ WHOLE = {
          "constructors": [[{"part": "tn", "required": True}, {"part": "st", "required": False}], [{"part": "key", "required": True}]]},
         {"name": "where", "split": "~", "parts": [{"name": "st", "prefix": "S", "kind": "encrypted", "from": "state"}]}],
 }
-PLAIN = {key: WHOLE[key] for key in ("table", "partition", "sort", "actions", "unsigned_prefix", "context", "beacons")}
-PLAIN["beacons"] = WHOLE["beacons"][:2]
-PLAIN["recipients"] = []
+PLAIN = {**WHOLE, "recipients": []}
 
 
 def is_text(data, least, most):
@@ -177,7 +175,7 @@ def refusal(text):
             or any(not any(member["required"] for member in constructor) for _, constructor in lists)),
         ("RecipientTwice", has_twice(raw) or len(recipients) - len(raw) > 1),
         ("TooManyRecipients", len(recipients) > 8),
-        ("NotBuilt", bool(recipients or virtual or compounds)),
+        ("NotBuilt", bool(recipients)),
     ]
     return next((name for name, applies in rules if applies), None)
 

@@ -1,7 +1,7 @@
 """What the documents say of requests, once more in Python: the replies to a script over one configuration with a sort key.
 
-Written from docs/REQUESTS.md, docs/CONDITIONS.md and docs/FORMATS.md alone, and not from the program. It keeps the order of
-refusals and the meaning of conditions, with exact numbers.
+Written from docs/REQUESTS.md, docs/CONDITIONS.md, docs/CONFIGURATION.md and docs/FORMATS.md alone, and not from the program. It keeps
+the order of refusals and the meaning of conditions, virtual fields and compounds, with exact numbers.
 """
 import base64
 import json
@@ -10,7 +10,24 @@ from fractions import Fraction
 
 CONFIG = {
     "table": "model", "partition": {"name": "p", "type": "S"}, "sort": {"name": "s", "type": "N"},
-    "actions": {name: "SIGN_ONLY" for name in "abcdef"}, "unsigned_prefix": "x_", "recipients": [],
+    "actions": {**{name: "SIGN_ONLY" for name in "abcde"}, "f": "ENCRYPT_AND_SIGN"}, "unsigned_prefix": "x_", "recipients": [],
+    "beacons": [{"name": "f", "length": 8}, {"name": "v", "length": 1}],
+    "virtual": [
+        {"name": "v", "parts": [{"from": "a", "steps": [["segment", "/", 1], ["upper"]]}]},
+        {"name": "w", "parts": [
+            {"from": "f", "steps": [["lower"], ["suffix", -1]]}, {"from": "s", "steps": []},
+            {"from": "b", "steps": [["prefix", -1], ["insert", "\u00e9/x"], ["substring", -4, 3]]}]},
+        {"name": "x_w", "parts": [{"from": "p", "steps": [["segments", "k", 0, -1], ["suffix", 2]]}]},
+        {"name": "z", "parts": [{"from": "b", "steps": [["segments", "/", -2, 9], ["prefix", 9], ["substring", 2, 1], ["insert", "x"]]}]}],
+    "compounds": [
+        {"name": "place", "split": "/", "parts": [
+            {"name": "f", "prefix": "x", "kind": "encrypted", "from": "f"}, {"name": "v", "prefix": "V-", "kind": "encrypted", "from": "v"},
+            {"name": "a", "prefix": "A-", "kind": "signed", "from": "a"}],
+         "constructors": [
+             [{"part": "v", "required": True}, {"part": "f", "required": False}],
+             [{"part": "a", "required": True}, {"part": "f", "required": True}], [{"part": "f", "required": True}]]},
+        {"name": "both", "split": "k", "parts": [
+            {"name": "", "prefix": "S-", "kind": "signed", "from": "s"}, {"name": "b", "prefix": "B", "kind": "signed", "from": "b"}]}],
 }
 
 
@@ -137,12 +154,17 @@ def item(data):
     return found
 
 
+# The names, types and greatest lengths in bytes of the keys.
+def keys():
+    return [(CONFIG[which]["name"], CONFIG[which]["type"], most) for which, most in (("partition", 2048), ("sort", 1024)) if which in CONFIG]
+
+
 def key(of):
-    for name, kind, most in (("p", "S", 2048), ("s", "N", 1024)):
-        found, inner = of.get(name, (None, None))
-        if found != kind or kind == "S" and not 1 <= len(inner) <= most:
+    for name, wanted, most in keys():
+        kind, inner = of.get(name, (None, None))
+        if kind != wanted or kind != "N" and not 1 <= len(inner) <= most:
             refused(name=name, refused="key")
-    return of["p"][1], of["s"][1]
+    return tuple(of[name][1] for name, _, _ in keys())
 
 
 SIGN = re.compile(rb"<>|<=|>=|[=<>(),]|[A-Za-z_][A-Za-z0-9_]*|[#:][A-Za-z0-9_]+")
@@ -224,7 +246,7 @@ class Reader:
         return True
 
     def whole(self):
-        holds = self.condition()
+        found = self.condition()
         if self.next < len(self.signs):
             self.take()
         if self.too_many:
@@ -233,49 +255,47 @@ class Reader:
             for operand in self.operands:
                 if operand[0] == sign and operand not in given:
                     refused(name=operand, why=why)
-        return holds
+        return found
 
     def condition(self):
-        parts = [self.conjunction()]
-        while self.is_next("OR"):
-            parts.append(self.conjunction())
-        return lambda row: any(holds(row) for holds in parts)
+        return self.chain("OR", self.conjunction)
 
     def conjunction(self):
-        parts = [self.negation()]
-        while self.is_next("AND"):
-            parts.append(self.negation())
-        return lambda row: all(holds(row) for holds in parts)
+        return self.chain("AND", self.negation)
+
+    def chain(self, word, part):
+        parts = [part()]
+        while self.is_next(word):
+            parts.append(part())
+        return (word, *parts) if len(parts) > 1 else parts[0]
 
     def negation(self):
         if self.is_next("NOT"):
-            inner = self.negation()
-            return lambda row: not inner(row)
+            return "NOT", self.negation()
         if self.is_next("("):
             inner = self.condition()
             self.take(")")
             return inner
-        for function, wanted in (("attribute_exists", True), ("attribute_not_exists", False)):
+        for function in ("attribute_exists", "attribute_not_exists"):
             if self.is_next(function):
                 self.take("(")
                 name = self.operand("word", "#")
                 self.take(")")
-                return lambda row: (name(row) is not None) == wanted
+                return function, name
         if self.is_next("begins_with"):
             self.take("(")
             name = self.operand("word", "#")
             self.take(",")
             front = self.operand()
             self.take(")")
-            return lambda row: begins(name(row), front(row))
+            return "begins_with", name, front
         return self.test(self.operand())
 
     def test(self, one):
         if self.is_next("BETWEEN"):
             low = self.operand()
             self.take("AND")
-            high = self.operand()
-            return lambda row: at_most(low(row), one(row)) and at_most(one(row), high(row))
+            return "BETWEEN", one, low, self.operand()
         if self.is_next("IN"):
             self.take("(")
             members = [self.operand()]
@@ -283,28 +303,147 @@ class Reader:
                 members.append(self.operand())
             self.take(")")
             self.too_many |= len(members) > 100
-            return lambda row: any(equal(one(row), member(row)) for member in members)
-        compare = COMPARISONS[self.take(*COMPARISONS)]
-        other = self.operand()
-        return lambda row: compare(one(row), other(row))
+            return "IN", one, *members
+        return self.take(*COMPARISONS), one, self.operand()
 
     def operand(self, *kinds):
-        operand = self.take(*(kinds or ("word", "#", ":")))
-        self.operands.append(operand)
-        if operand[0] == ":":
-            return lambda row: self.values[operand]
-        return lambda row: row.get(self.name_of(operand))
+        self.operands.append(self.take(*(kinds or ("word", "#", ":"))))
+        return self.operands[-1]
 
     def name_of(self, operand):
         return self.names[operand] if operand[0] == "#" else operand
 
+    # The names that are asked for, in the order of the text.
+    def asked_names(self):
+        return [self.name_of(operand) for operand in self.operands if operand[0] != ":"]
+
     def reserved(self):
-        names = (self.name_of(operand) for operand in self.operands if operand[0] != ":")
-        return next((name for name in names if name.startswith("aws_dbe_")), None)
+        return next((name for name in self.asked_names() if name.startswith("aws_dbe_")), None)
+
+    # The value of an operand in a row, or None where it is absent.
+    def read(self, operand, row):
+        return self.values[operand] if operand[0] == ":" else row.get(self.name_of(operand))
+
+    def holds(self, tree, row):
+        word, *parts = tree
+        if word in ("OR", "AND"):
+            return (any if word == "OR" else all)(self.holds(part, row) for part in parts)
+        if word == "NOT":
+            return not self.holds(parts[0], row)
+        one, *others = (self.read(part, row) for part in parts)
+        if word in ("attribute_exists", "attribute_not_exists"):
+            return (one is not None) == (word == "attribute_exists")
+        if word == "begins_with":
+            return begins(one, others[0])
+        if word == "BETWEEN":
+            return at_most(others[0], one) and at_most(one, others[1])
+        if word == "IN":
+            return any(equal(one, other) for other in others)
+        return COMPARISONS[word](one, others[0])
+
+    # The condition's text, its names and its values, each under a number of its own from left to right.
+    def printed(self, tree):
+        names, values = {}, {}
+
+        def operand(part):
+            found, mark, inner = (values, ":", self.values.get(part)) if part[0] == ":" else (names, "#", self.name_of(part))
+            found[mark + str(len(found))] = inner
+            return mark + str(len(found) - 1)
+
+        def within(part, *words):
+            return "(" + whole(part) + ")" if part[0] in words else whole(part)
+
+        def whole(part):
+            word, *parts = part
+            if word in ("OR", "AND"):
+                return f" {word} ".join(within(inner, "OR", *(["AND"] if word == "AND" else [])) for inner in parts)
+            if word == "NOT":
+                return "NOT " + within(parts[0], "OR", "AND")
+            one, *others = map(operand, parts)
+            if word in FUNCTIONS:
+                return word + "(" + ", ".join([one, *others]) + ")"
+            if word == "BETWEEN":
+                return one + " BETWEEN " + " AND ".join(others)
+            return one + (" IN (" + ", ".join(others) + ")" if word == "IN" else f" {word} {others[0]}")
+
+        return whole(tree), names, values
 
 
 def begins(one, front):
     return bool(one and front) and one[0] == front[0] and one[0] in ("S", "B") and one[1].startswith(front[1])
+
+
+def place(at, size):
+    return min(at, size) if at >= 0 else max(size + at, 0)
+
+
+# What a step gives, or None.
+def stepped(text, step):
+    word, *given = step
+    if word in ("upper", "lower"):
+        return "".join(getattr(letter, word)() if letter.isascii() else letter for letter in text)
+    if word == "insert":
+        return text + given[0]
+    if word == "prefix":
+        return text[:place(given[0], len(text))]
+    if word == "suffix":
+        return text[len(text) - min(given[0], len(text)):] if given[0] >= 0 else text[min(-given[0], len(text)):]
+    if word == "substring":
+        return text[place(given[0], len(text)):place(given[1], len(text))]
+    pieces = text.split(given[0])
+    if word == "segment":
+        return pieces[given[1]] if -len(pieces) <= given[1] < len(pieces) else None
+    return given[0].join(pieces[place(given[1], len(pieces)):place(given[2], len(pieces))])
+
+
+# The text of an attribute, or None where it is absent or has none.
+def text_at(name, row):
+    kind, inner = row.get(name, (None, None))
+    return {"S": lambda: inner.decode(), "N": lambda: number_text(inner)}.get(kind, lambda: None)()
+
+
+def virtual_text(field, row):
+    whole = ""
+    for part in field["parts"]:
+        found = text_at(part["from"], row)
+        for step in part["steps"]:
+            found = None if found is None else stepped(found, step)
+        if found is None:
+            return None
+        whole += found
+    return whole
+
+
+# The text of an attribute or a virtual field.
+def plain_text(name, row):
+    field = next((field for field in CONFIG["virtual"] if field["name"] == name), None)
+    return virtual_text(field, row) if field else text_at(name, row)
+
+
+# The parts that a compound is made of and their texts, or None where it is absent.
+def used_parts(compound, row):
+    texts = {part["name"]: plain_text(part["from"], row) for part in compound["parts"]}
+    everything = [{"part": part["name"], "required": True} for part in compound["parts"]]
+    for constructor in compound.get("constructors", [everything]):
+        if all(texts[entry["part"]] is not None for entry in constructor if entry["required"]):
+            return [
+                (next(part for part in compound["parts"] if part["name"] == entry["part"]), texts[entry["part"]])
+                for entry in constructor if texts[entry["part"]] is not None]
+    return None
+
+
+def computed():
+    return [made["name"] for made in CONFIG["virtual"] + CONFIG["compounds"]]
+
+
+# The item in which each virtual field and compound has its value or is absent.
+def extended(row):
+    found = {name: inner for name, inner in row.items() if name not in computed()}
+    texts = {field["name"]: virtual_text(field, row) for field in CONFIG["virtual"]}
+    for compound in CONFIG["compounds"]:
+        used = used_parts(compound, row)
+        texts[compound["name"]] = None if used is None else compound["split"].join(part["prefix"] + inner for part, inner in used)
+    return {**found, **{name: ("S", inner.encode()) for name, inner in texts.items() if inner is not None}}
 
 
 # The JSON of a line. Python takes NaN and halves of surrogate pairs too, which are none.
@@ -342,10 +481,10 @@ class Table:
         if not isinstance(request, dict) or len(request) != 1:
             refused(refused="shape")
         (call, body), = request.items()
-        if call in ("put", "get", "check") and isinstance(body, dict) and (call == "put" or set(body) == {"p", "s"}):
+        if call in ("put", "get", "check") and isinstance(body, dict) and (call == "put" or set(body) == {name for name, _, _ in keys()}):
             return getattr(self, call)(item(body))
-        if call == "query" and isinstance(body, dict):
-            return self.query(**self.asked(body))
+        if call in ("query", "explain") and isinstance(body, dict):
+            return getattr(self, call)(*self.read(**self.asked(body)))
         if call in ("create", "rotate") and is_text(body, "[A-Za-z0-9_-]{1,64}"):
             refused(refused="not built")
         refused(refused="shape")
@@ -356,12 +495,16 @@ class Table:
             if name.startswith("aws_dbe_"):
                 refused(name=name, refused="reserved")
         for name in in_order(new):
-            if name not in ("p", "s", *CONFIG["actions"]) and not name.startswith(CONFIG["unsigned_prefix"]):
+            if name not in (*(name for name, _, _ in keys()), *CONFIG["actions"]) and not name.startswith(CONFIG["unsigned_prefix"]):
                 refused(name=name, refused="attribute")
         if len(new) > 1000:
             refused(refused="attributes")
         if sum(len(name.encode()) + size_of(inner) for name, inner in new.items()) > 409600:
             refused(refused="size")
+        for compound in CONFIG["compounds"]:
+            for part, inner in used_parts(compound, new) or []:
+                if compound["split"] in inner:
+                    refused(beacon=compound["name"], part=part["name"], refused="split")
         self.rows[found] = new
         return [{"ok": "put"}]
 
@@ -385,17 +528,30 @@ class Table:
                 refused(name=placeholder, refused="value", why="BadName")
         return {"condition": body["condition"], "names": names, "values": item_of_values(values)}
 
-    def query(self, condition, names, values):
+    # The condition that is asked: its reader and its tree.
+    def read(self, condition, names, values):
         try:
             reader = Reader(condition.encode(), names, values)
-            holds = reader.whole()
+            tree = reader.whole()
         except Fault as fault:
             refused(refused="condition", **fault.args[0])
         reserved = reader.reserved()
         if reserved is not None:
             refused(name=reserved, refused="rewriting", why="NotSearchable")
-        found = [item_text(row) for _, row in sorted(self.rows.items()) if holds(row)]
-        return found + [{"count": len(found), "scanned": len(found)}]
+        return reader, tree
+
+    def query(self, reader, tree):
+        rows = [row for _, row in sorted(self.rows.items())]
+        found = [item_text(row) for row in rows if reader.holds(tree, extended(row))]
+        is_computed = any(name in computed() for name in reader.asked_names())
+        return found + [{"count": len(found), "scanned": len(rows) if is_computed else len(found)}]
+
+    def explain(self, reader, tree):
+        if any(name in computed() for name in reader.asked_names()):
+            return [{"every": True}]
+        text, names, values = reader.printed(tree)
+        ordered = lambda found: {name: found[name] for name in in_order(found)}
+        return [{"condition": text, "names": ordered(names), "values": {name: spelled(inner) for name, inner in ordered(values).items()}}]
 
 
 def item_of_values(values):

@@ -14,6 +14,8 @@ mod entry;
 mod fault;
 mod key_rules;
 mod laws;
+#[cfg(test)]
+mod lent_tests;
 mod named;
 mod names;
 mod read_actions;
