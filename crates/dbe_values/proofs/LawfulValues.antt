@@ -1,14 +1,10 @@
 -- What holds of values that are read one after another.
-use Rattle.std.proofs.Common.{◌≡◌, ◌≢◌, ℕ, zero, suc, ◌-◌, List, [], ◌∷◌, ◌++◌, get_or, String, string_bytes, string_cmp, nat_cmp, Global, Less, refl, sym, ap, ◌∙◌, subst, arith}
+use Rattle.std.proofs.Common.{◌≡◌, ◌≢◌, ℕ, zero, suc, ◌-◌, List, [], ◌∷◌, ◌++◌, get_or, String, string_bytes, string_cmp, nat_cmp, Global, refl, sym, ap, ◌∙◌, subst, arith}
 use Rattle.std.specs.Prelude.{map}
 use Rattle.std.specs.Str.{IsUtf8}
 use Rattle.std.specs.Cmp.Lexicographic.{slice_cmp}
 use Rattle.std.specs.List.Sorted.{IsStrictlySortedBy}
-use Rattle.std.specs.List.{All}
 use Rattle.std.specs.Map.{keys_of}
-use Rattle.std.proofs.lemmas.List.Elements.{All-map}
-use Rattle.std.proofs.lemmas.Map.Views.{All-after_first}
-use Rattle.std.proofs.lemmas.Map.Keys.{sorted_tail}
 use Rattle.std.proofs.lemmas.List.{append-nil, append_assoc, map-append, get_or_append_left, length-append}
 use Rattle.serde_json.specs.declared.value.Value.{Value}
 use Rattle.dbe_values.specs.Val as v
@@ -18,6 +14,7 @@ use Rattle.dbe_values.specs.Sets.{IsIncreasing}
 use Rattle.dbe_values.specs.Lawful.{IsLawful, AreLawful, AreLawfulEntries, entry_names, names_of}
 use Rattle.dbe_values.specs.declared.value.AttrValue.{AttrValue, L, M}
 use Rattle.dbe_values.proofs.Views.{view-L, view-M}
+use Rattle.dbe_values.proofs.Ordered.{keys_rise}
 
 pub lawful_more : (left : ℕ) (front : List AttrValue) (x : AttrValue) → AreLawful left (vals_of (map view front)) → IsLawful left (view x) → AreLawful left (vals_of (map view (front ++ x ∷ [])))
 lawful_more left [] x h k = (k, tt)
@@ -50,16 +47,8 @@ lawful_map left es some r h = subst (IsLawful left) (sym (view-M es)) (map_at le
 abbrev pub member_names : List (String Global × Value) → List (List ℕ)
 member_names es = map string_bytes (keys_of es)
 
-increasing_cons : (x : List ℕ) (xs : List (List ℕ)) → All (λ y. slice_cmp nat_cmp x y ≡ Less) xs → IsIncreasing xs → IsIncreasing (x ∷ xs)
-increasing_cons x xs before rise zero zero lt h = absurd (omega arith)
-increasing_cons x xs before rise zero (suc j) lt h = before j [] (omega arith)
-increasing_cons x xs before rise (suc i) zero lt h = absurd (omega arith)
-increasing_cons x xs before rise (suc i) (suc j) lt h = rise i j (omega arith) (omega arith)
-
 pub names_rise : (es : List (String Global × Value)) → IsStrictlySortedBy string_cmp (keys_of es) → IsIncreasing (member_names es)
-names_rise [] h = λ i j lt k. absurd (omega arith)
-names_rise (e ∷ es) h =
-    increasing_cons (string_bytes e.0) (member_names es) (All-map (λ y. slice_cmp nat_cmp (string_bytes e.0) y ≡ Less) string_bytes (keys_of es) (All-after_first string_cmp e.0 (keys_of es) h)) (names_rise es (sorted_tail string_cmp e.0 (keys_of es) h))
+names_rise es h = keys_rise string_bytes (keys_of es) h
 
 pub names_step : (es others : List (String Global × Value)) (e : String Global × Value) (front more : List (List ℕ × AttrValue)) (name : List ℕ) (x : AttrValue) (all : List (List ℕ)) → es ≡ e ∷ others → name ≡ string_bytes e.0 → more ≡ front ++ (name, x) ∷ []
     → names_of front ++ member_names es ≡ all → names_of more ++ member_names others ≡ all

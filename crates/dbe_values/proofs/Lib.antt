@@ -3,6 +3,7 @@ pub mod Views
 pub mod Unviewed
 pub mod SameValues
 pub mod Placing
+pub mod Ordered
 pub mod Elements
 pub mod ReadValues
 pub mod Members

@@ -1,7 +1,8 @@
 -- An element placed among others that rise.
-use Rattle.std.proofs.Common.{◌≡◌, ℕ, zero, suc, ◌+◌, ◌-◌, ◌<◌, ◌≤◌, List, [], ◌∷◌, length, get_or, Some, None, option_map, insert, Ordering, Less, Equal, Greater, nat_cmp, refl, sym, ap, ◌∙◌, subst, arith, ◌⊎◌, inl, inr}
+use Rattle.std.proofs.Common.{◌≡◌, ℕ, zero, suc, ◌+◌, ◌-◌, ◌<◌, ◌≤◌, List, [], ◌∷◌, length, get_or, Some, option_map, insert, Ordering, Less, Equal, Greater, nat_cmp, refl, sym, ap, ◌∙◌, subst, arith, ◌⊎◌, inl, inr}
 use Rattle.std.specs.Cmp.Lexicographic.{slice_cmp}
 use Rattle.std.specs.Ordering.{ordering_reverse}
+use Rattle.std.specs.List.{All}
 use Rattle.std.proofs.lemmas.Cmp.{nat_list_cmp_total}
 use Rattle.std.proofs.lemmas.List.{get_or_read}
 use Rattle.std.proofs.lemmas.List.Edits.{length-insert, get_or-insert_below, get_or-insert_at, get_or-insert_above}
@@ -35,12 +36,6 @@ placed_at [] x (suc i) h gap = absurd (omega arith)
 placed_at (y ∷ ys) x zero h gap = rw (gap.above 0 (omega arith) (omega arith))
 placed_at (y ∷ ys) x (suc i) h gap =
     rw (gap.below 0 (omega arith)) (ap (option_map (λ zs. y ∷ zs)) (placed_at ys x i (omega arith) (record { within = omega arith; below = λ k lt. gap.below (suc k) (omega arith); above = λ k le lt. gap.above (suc k) (omega arith) (omega arith) })))
-
-pub placed_there : (xs : List (List ℕ)) (x : List ℕ) (m : ℕ) → m < length xs → order x (get_or xs m []) ≡ Equal → ((k : ℕ) → k < m → order x (get_or xs k []) ≡ Greater) → placed x xs ≡ None
-placed_there [] x m h e below = absurd (omega arith)
-placed_there (y ∷ ys) x zero h e below = rw e
-placed_there (y ∷ ys) x (suc m) h e below =
-    rw (below 0 (omega arith)) (ap (option_map (λ zs. y ∷ zs)) (placed_there ys x m (omega arith) e (λ k lt. below (suc k) (omega arith))))
 
 three_ways : (a b : ℕ) → (a < b) ⊎ ((b < a) ⊎ (a ≡ b))
 three_ways a b = grind arith
@@ -81,3 +76,9 @@ module _ (xs : List (List ℕ)) (x : List ℕ) (i : ℕ) (within : i ≤ length 
 -- what a comparison with an element that was read says of the element at its place
 pub read_at : (xs : List (List ℕ)) (x : List ℕ) (m : ℕ) (r s : List ℕ) (o : Ordering) → m < length xs → r ≡ get_or xs m r → s ≡ r → o ≡ order x s → order x (get_or xs m []) ≡ o
 read_at xs x m r s o lt is same e = rw (← get_or_read xs m r lt is []) (rw same at (sym e))
+
+pub increasing_cons : (x : List ℕ) (xs : List (List ℕ)) → All (λ y. order x y ≡ Less) xs → IsIncreasing xs → IsIncreasing (x ∷ xs)
+increasing_cons x xs before rise zero zero lt h = absurd (omega arith)
+increasing_cons x xs before rise zero (suc j) lt h = before j [] (omega arith)
+increasing_cons x xs before rise (suc i) zero lt h = absurd (omega arith)
+increasing_cons x xs before rise (suc i) (suc j) lt h = rise i j (omega arith) (omega arith)

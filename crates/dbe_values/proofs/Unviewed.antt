@@ -5,7 +5,7 @@ use denote.Hole.Carrier
 use Rattle.dbe_values.specs.Val as v
 use Rattle.dbe_values.specs.Val.{Val, Vals, Entries}
 use Rattle.dbe_values.specs.View.{view, view_step, vals_of, entries_of, entry_view, attr_of, attrs_of, attributes_of}
-use Rattle.dbe_values.specs.declared.value.AttrValue.{AttrValue, S, N, B, Bool, Null, Ss, Ns, Bs, L, M, roll-AttrValue}
+use Rattle.dbe_values.specs.declared.value.AttrValue.{AttrValue, L, M, roll-AttrValue}
 use Rattle.dbe_values.specs.declared.value.AttrValue.TheOpen.{AttrValue-F}
 use Rattle.dbe_values.specs.declared.value.AttrValue.TheFolds.{ind-AttrValue, map-AttrValue, fold-roll-AttrValue}
 use Rattle.dbe_values.specs.declared.value.AttrValue.TheVariants.{rolls-S, rolls-N, rolls-B, rolls-Bool, rolls-Null, rolls-Ss, rolls-Ns, rolls-Bs, rolls-L, rolls-M}

@@ -1,83 +1,59 @@
-//! Where elements go among others that rise.
+//! The elements of a set in their order, while they are read and after it.
 
-ghost use Rattle.std.specs.Prelude.{◌≡◌, ◌+◌, ◌≤◌, Some, None, IfSome, IfNone, OnOk, length, insert};
+ghost use Rattle.std.specs.Prelude.{◌≡◌, ◌+◌, map, IfOk, OnOk, length, string_bytes, vec_items};
 ghost use Rattle.dbe_values.specs.Sets.{placed, IsIncreasing};
 ghost use Rattle.dbe_values.specs.Faults.{Gives, or_fault};
 ghost use Rattle.dbe_values.specs.declared.fault.ValueFault.TheVariants as fault;
 
 use crate::ValueFault;
-use dbe_num::{Bytes, Text};
-use std::cmp::Ordering;
-
-/// The place of a text among others, or none where it is there already. Takes no memory.
-fn text_place(texts: &[Text], text: &[u8]) -> Option<usize>
-    requires { IsIncreasing texts.now }
-    ensures there { IfNone result (placed text.now texts.now ≡ None) }
-    ensures goes { IfSome result (λ i. placed text.now texts.now ≡ Some (insert texts.now i text.now)) }
-    ensures rises { IfSome result (λ i. IsIncreasing (insert texts.now i text.now)) }
-    ensures within { IfSome result (λ i. i ≤ length texts.now) }
-{
-    let mut low = 0;
-    let mut high = texts.len();
-    while low < high {
-        let middle = low + (high - low) / 2;
-        match text.cmp(&texts[middle].as_bytes()) {
-            Ordering::Less => high = middle,
-            Ordering::Equal => return None,
-            Ordering::Greater => low = middle + 1,
-        }
-    }
-    Some(low)
-}
+use dbe_num::{Bytes, Memory, Text};
+use std::alloc::Global;
+use std::collections::BTreeSet;
 
 /// Puts a text among others, in order.
-pub fn put_text(texts: &mut Vec<Text>, text: Text) -> Result<(), ValueFault>
-    requires { IsIncreasing texts.old.items }
-    ensures gives { Gives (λ _. texts.new.items) result (or_fault fault.DoubledElement (placed text texts.old.items)) }
-    ensures rises { OnOk result (IsIncreasing texts.new.items) }
-    ensures longer { OnOk result (length texts.new.items ≡ length texts.old.items + 1) }
+pub fn put_text(texts: &mut BTreeSet<String>, text: Text) -> Result<(), ValueFault>
+    ensures gives { Gives (λ _. map string_bytes texts.new.keys) result (or_fault fault.DoubledElement (placed text (map string_bytes texts.old.keys))) }
+    ensures longer { OnOk result (length texts.new.keys ≡ length texts.old.keys + 1) }
 {
-    match text_place(texts, text.as_bytes()) {
-        Some(place) => {
-            texts.insert(place, text)?;
-            Ok(())
-        }
-        None => Err(ValueFault::DoubledElement),
+    if texts.insert(text.into_string())? {
+        Ok(())
+    } else {
+        Err(ValueFault::DoubledElement)
     }
 }
 
-fn binary_place(binaries: &[Bytes], binary: &[u8]) -> Option<usize>
-    requires { IsIncreasing binaries.now }
-    ensures there { IfNone result (placed binary.now binaries.now ≡ None) }
-    ensures goes { IfSome result (λ i. placed binary.now binaries.now ≡ Some (insert binaries.now i binary.now)) }
-    ensures rises { IfSome result (λ i. IsIncreasing (insert binaries.now i binary.now)) }
-    ensures within { IfSome result (λ i. i ≤ length binaries.now) }
+/// The texts of a set, in order.
+pub fn ordered_texts(alloc: Global, texts: BTreeSet<String>) -> Result<Vec<Text>, Memory>
+    ensures same { IfOk result (λ ordered. ordered.items ≡ map string_bytes texts.keys) }
+    ensures rises { IfOk result (λ ordered. IsIncreasing ordered.items) }
 {
-    let mut low = 0;
-    let mut high = binaries.len();
-    while low < high {
-        let middle = low + (high - low) / 2;
-        match binary.cmp(&binaries[middle].as_slice()) {
-            Ordering::Less => high = middle,
-            Ordering::Equal => return None,
-            Ordering::Greater => low = middle + 1,
-        }
+    let mut ordered = Vec::with_capacity(alloc, texts.len())?;
+    for text in texts {
+        ordered.push(Text::from_string(text))?;
     }
-    Some(low)
+    Ok(ordered)
 }
 
 /// Puts a binary among others, in order.
-pub fn put_binary(binaries: &mut Vec<Bytes>, binary: Bytes) -> Result<(), ValueFault>
-    requires { IsIncreasing binaries.old.items }
-    ensures gives { Gives (λ _. binaries.new.items) result (or_fault fault.DoubledElement (placed binary binaries.old.items)) }
-    ensures rises { OnOk result (IsIncreasing binaries.new.items) }
-    ensures longer { OnOk result (length binaries.new.items ≡ length binaries.old.items + 1) }
+pub fn put_binary(binaries: &mut BTreeSet<Vec<u8>>, binary: Bytes) -> Result<(), ValueFault>
+    ensures gives { Gives (λ _. map vec_items binaries.new.keys) result (or_fault fault.DoubledElement (placed binary (map vec_items binaries.old.keys))) }
+    ensures longer { OnOk result (length binaries.new.keys ≡ length binaries.old.keys + 1) }
 {
-    match binary_place(binaries, binary.as_slice()) {
-        Some(place) => {
-            binaries.insert(place, binary)?;
-            Ok(())
-        }
-        None => Err(ValueFault::DoubledElement),
+    if binaries.insert(binary.into_vec())? {
+        Ok(())
+    } else {
+        Err(ValueFault::DoubledElement)
     }
+}
+
+/// The binaries of a set, in order.
+pub fn ordered_binaries(alloc: Global, binaries: BTreeSet<Vec<u8>>) -> Result<Vec<Bytes>, Memory>
+    ensures same { IfOk result (λ ordered. ordered.items ≡ map vec_items binaries.keys) }
+    ensures rises { IfOk result (λ ordered. IsIncreasing ordered.items) }
+{
+    let mut ordered = Vec::with_capacity(alloc, binaries.len())?;
+    for binary in binaries {
+        ordered.push(Bytes::from_vec(binary))?;
+    }
+    Ok(ordered)
 }

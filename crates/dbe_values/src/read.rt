@@ -16,7 +16,7 @@ ghost use Rattle.dbe_num.specs.Decimal.{IsNormal};
 ghost use Rattle.dbe_values.specs.Lawful.{AreBytes, IsNumberText, IsSetOf};
 
 use crate::kind::{Kind, kind_of};
-use crate::place::{put_binary, put_text};
+use crate::place::{ordered_binaries, ordered_texts, put_binary, put_text};
 use crate::{AttrValue, BytesSet, NumberSet, TextSet, ValueFault, size_of};
 use base64::DecodeAllocError;
 use base64::engine::general_purpose::STANDARD;
@@ -24,6 +24,7 @@ use dbe_num::{Bytes, Number, Text};
 use serde_json::Value;
 use sqlite_items::Items;
 use std::alloc::Global;
+use std::collections::BTreeSet;
 
 /// The one member of an object that has just one.
 pub fn single_of(value: &Value) -> Option<(&str, &Value)>
@@ -107,11 +108,11 @@ fn texts_of(alloc: Global, items: &[Value]) -> Result<Vec<Text>, ValueFault>
     ensures rises { IfOk result (λ xs. IsIncreasing xs.items) }
     ensures some { IfOk result (λ xs. length items.now ≤ length xs.items) }
 {
-    let mut texts = Vec::new(alloc);
+    let mut texts = BTreeSet::new(alloc);
     for item in items {
         put_text(&mut texts, owned_text_in(alloc, item)?)?;
     }
-    Ok(texts)
+    Ok(ordered_texts(alloc, texts)?)
 }
 
 fn numbers_of(alloc: Global, items: &[Value]) -> Result<Vec<Text>, ValueFault>
@@ -120,11 +121,11 @@ fn numbers_of(alloc: Global, items: &[Value]) -> Result<Vec<Text>, ValueFault>
     ensures rises { IfOk result (λ xs. IsIncreasing xs.items) }
     ensures some { IfOk result (λ xs. length items.now ≤ length xs.items) }
 {
-    let mut texts = Vec::new(alloc);
+    let mut texts = BTreeSet::new(alloc);
     for item in items {
         put_text(&mut texts, number_text_in(alloc, item)?)?;
     }
-    Ok(texts)
+    Ok(ordered_texts(alloc, texts)?)
 }
 
 fn binaries_of(alloc: Global, items: &[Value]) -> Result<Vec<Bytes>, ValueFault>
@@ -133,11 +134,11 @@ fn binaries_of(alloc: Global, items: &[Value]) -> Result<Vec<Bytes>, ValueFault>
     ensures rises { IfOk result (λ xs. IsIncreasing xs.items) }
     ensures some { IfOk result (λ xs. length items.now ≤ length xs.items) }
 {
-    let mut binaries = Vec::new(alloc);
+    let mut binaries = BTreeSet::new(alloc);
     for item in items {
         put_binary(&mut binaries, binary_in(alloc, item)?)?;
     }
-    Ok(binaries)
+    Ok(ordered_binaries(alloc, binaries)?)
 }
 
 pub fn text_set_in(alloc: Global, value: &Value) -> Result<TextSet, ValueFault>
