@@ -1,4 +1,4 @@
-use Rattle.std.proofs.Common.{ap, ◌∙◌, arith}
+use Rattle.std.proofs.Common.{ap, arith}
 use Rattle.dbe_num.proofs.Lengths.{text_length_by}
 use Rattle.dbe_num.proofs.number.Number.text_len.Goals as goal
 
