@@ -8,6 +8,8 @@ mod names;
 mod operand;
 mod parsed;
 mod placeholders;
+mod printed;
+mod printing;
 mod reading;
 mod resolve;
 mod unknown;
@@ -20,6 +22,8 @@ pub use meaning::holds;
 pub use names::first_name_with;
 pub use operand::Operand;
 pub use placeholders::{Names, Values};
+pub use printed::Printed;
+pub use printing::{names_in, print};
 pub use reading::{one_reading, one_refusal, read, read_is_lawful};
 pub use wanted::{Wanted, wants};
 
