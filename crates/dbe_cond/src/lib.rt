@@ -1,10 +1,12 @@
 //! Conditions: what they are, what they mean over an item, and which rows a table hands out for them.
 #![tactic(auto)]
 
+mod collect;
 mod cond;
 mod fault;
 mod meaning;
 mod names;
+mod numbered;
 mod operand;
 mod parsed;
 mod placeholders;
@@ -12,6 +14,8 @@ mod printed;
 mod printing;
 mod reading;
 mod resolve;
+mod shape;
+mod spell;
 mod unknown;
 mod wanted;
 
