@@ -14,7 +14,7 @@ use Rattle.dbe_values.specs.Sets.{IsIncreasing}
 use Rattle.dbe_values.proofs.Placing.{order}
 use Rattle.dbe_cond.specs.Given.{given, IsBehind}
 
-equal_at : (x p : List ℕ) (o : Ordering) → order p x ≡ o → bytes_eq x p ≡ is_eq (ordering_reverse o)
+pub equal_at : (x p : List ℕ) (o : Ordering) → order p x ≡ o → bytes_eq x p ≡ is_eq (ordering_reverse o)
 equal_at x p o e = sym (is_eq-slice_cmp x p) ∙ ap is_eq (nat_list_cmp_total.antisymm x p ∙ ap ordering_reverse e)
 
 -- the key of an entry that was read

@@ -27,7 +27,7 @@ pub use names::first_name_with;
 pub use operand::Operand;
 pub use placeholders::{Names, Values};
 pub use printed::Printed;
-pub use printing::{names_in, print};
+pub use printing::{names_in, print, printed_is_read};
 pub use reading::{one_reading, one_refusal, read, read_is_lawful};
 pub use wanted::{Wanted, wants};
 

@@ -1,7 +1,8 @@
 ghost use Rattle.std.specs.Prelude.{◌≡◌, IfOk};
-ghost use Rattle.dbe_cond.specs.Condition.{condition_of};
+ghost use Rattle.dbe_cond.specs.Condition.{Condition, condition_of, IsLawful};
 ghost use Rattle.dbe_cond.specs.Names.{names_of};
 ghost use Rattle.dbe_cond.specs.Printed.{printed_text, printed_names, printed_values};
+ghost use Rattle.dbe_cond.specs.Reading.{Reads, IsWithinLimits};
 
 use crate::collect::{push_names, push_values};
 use crate::shape::shape;
@@ -43,3 +44,8 @@ pub fn names_in(alloc: Global, cond: &Cond) -> Result<Items<Text>, Memory>
     push_names(alloc, &mut names, cond)?;
     Ok(Items::from_vec(names))
 }
+
+/// Reading what is printed gives the same condition, where the text is within the limits of `read`.
+pub fn printed_is_read()
+    ensures { (c : Condition) → IsLawful c → IsWithinLimits (printed_text c) → Reads (printed_text c) (printed_names c) (printed_values c) c }
+{}
