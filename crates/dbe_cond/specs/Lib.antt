@@ -2,8 +2,10 @@ pub use Rattle.dbe_values.specs.Attributes
 pub mod Condition
 pub mod Meaning
 pub mod Names
+pub mod Values
 pub mod Wants
 pub mod Given
 pub mod Placeholders
 pub mod Resolved
 pub mod Reading
+pub mod Printed

@@ -1,5 +1,5 @@
 -- The names of a condition (this project's own).
-use Rattle.std.specs.Prelude.{ℕ, Bool, List, [], ◌∷◌, ◌++◌, Option, nat_eq}
+use Rattle.std.specs.Prelude.{ℕ, List, [], ◌∷◌, ◌++◌, Option, nat_eq}
 use Rattle.std.specs.List.{find, flat_map, starts_with}
 use Rattle.dbe_cond.specs.declared.operand.Operand.{Operand}
 use Rattle.dbe_cond.specs.declared.operand.Operand.TheVariants.{Name, Value}

@@ -1,4 +1,4 @@
-use Rattle.std.proofs.Common.{◌≡◌, ◌∷◌, ◌+◌, ◌<◌, length, drop, drop-cons, suc, add-one, ap, sym, ◌∙◌, Some, None}
+use Rattle.std.proofs.Common.{◌∷◌, ◌+◌, ◌<◌, length, drop, drop-cons, suc, add-one, ap, sym, ◌∙◌, Some, None}
 use Rattle.dbe_cond.proofs.Firsts.{first_after}
 use Rattle.dbe_cond.proofs.names.+names.Goals as goal
 
