@@ -34,4 +34,6 @@ pub use wanted::{Wanted, wants};
 #[cfg(test)]
 mod meaning_tests;
 #[cfg(test)]
+mod print_tests;
+#[cfg(test)]
 mod read_tests;
