@@ -8,4 +8,5 @@ pub mod Written
 pub mod Names
 pub mod Tags
 pub mod Entries
+pub mod Computed
 pub mod Loops

@@ -1,6 +1,7 @@
 //! The frame of a sealed item: its header, the encryption context, the record text that is signed, and the footer.
 #![tactic(auto)]
 
+mod context;
 mod edks;
 mod fault;
 mod footer;
@@ -13,6 +14,7 @@ mod signed;
 mod stop;
 mod writing;
 
+pub use context::context_bytes;
 pub use edks::Edks;
 pub use fault::FrameFault;
 pub use footer::read_footer;

@@ -216,10 +216,10 @@ fn key_bytes_at<'a>(
         return Err(Stop::Left(bytes.len()));
     }
     let (key, rest) = bytes.split_at(count);
-    if !comes_after(before, key) {
-        return Err(Stop::Left(bytes.len()));
+    match comes_after(before, key) {
+        true => Ok((key, rest)),
+        false => Err(Stop::Left(bytes.len())),
     }
-    Ok((key, rest))
 }
 
 /// Whether a key is greater than the one before it, where there is one.

@@ -1,7 +1,11 @@
+ghost use Rattle.std.specs.Prelude.{◌≡◌, ◌<◌, ◌≤◌, IfOk, length};
+
 use super::*;
 use dbe_config::Config;
-use dbe_num::Bytes;
-use dbe_values::{Item, item_from_json, json_value};
+use dbe_num::Text;
+use dbe_values::{
+    AttrValue, Item, KeyKind, KeyName, KeySchema, KeyValue, item_from_json, json_value,
+};
 use std::alloc::Global;
 use std::process::Abort;
 use std::test::Fail;
@@ -178,3 +182,66 @@ fn a_record(rt: HostRuntime) -> Result<(), Fail> {
 /// the value.
 const RECORD: &[u8] =
     b"HEAD\x00\x00\x00\x00\x00\x00\x00!\x00\x00\x00\x00\x00\x00\x00\x06people\x00\x00\x00\x00\x00\x00\x00\x01$\x00\x00\x00\x00\x00\x00\x00\x02idPLAINTEXT\x00\x00\x00\x00\x00\x00\x00\x05\x00\x01c-1\x00\x00\x00\x00\x00\x00\x00\x22\x00\x00\x00\x00\x00\x00\x00\x06people\x00\x00\x00\x00\x00\x00\x00\x01$\x00\x00\x00\x00\x00\x00\x00\x03ageENCRYPTED\x00\x00\x00\x00\x00\x00\x00\x04\x00\x0241";
+
+/// A text of 1 to 255 bytes.
+fn short(rt: &impl Abort, alloc: Global, text: &str) -> Result<Text, Fail>
+    ensures { IfOk result (λ t. (0 < length t) × (length t ≤ 255)) }
+{
+    let text = Text::copy_of(alloc, text)?;
+    assert!(rt; !text.as_bytes().is_empty());
+    assert!(rt; text.as_bytes().len() <= 255);
+    Ok(text)
+}
+
+fn key_name(name: Text) -> KeyName
+    ensures { result ≡ record { name = name; kind = KeyKind.S } }
+{
+    KeyName {
+        name,
+        kind: KeyKind::S,
+    }
+}
+
+#[test]
+fn a_context(rt: HostRuntime) -> Result<(), Fail> {
+    let alloc = rt.alloc();
+    let header = with_context(alloc, b"\x00\x01\x00\x03app\x00\x04demo")?;
+    let header = read(alloc, &header).ok().ok_or("a header")?;
+    let schema = KeySchema {
+        partition: key_name(short(&rt, alloc, "id")?),
+        sort: None,
+    };
+    let key = KeyValue {
+        partition: AttrValue::S(short(&rt, alloc, "c-1")?),
+        sort: None,
+    };
+    let table = short(&rt, alloc, "people")?;
+    let bytes = context_bytes(alloc, &schema, &table, &key, header.context())?;
+    assert_eq!(rt;
+        bytes.as_slice(),
+        b"\x00\x00\x00\x03\x00\x12aws-crypto-attr.id\x00\x05\x00\x01c-1\x00\x19aws-crypto-partition-name\x00\x02id\x00\x15aws-crypto-table-name\x00\x06people\x00\x00\x00\x01\x00\x03app\x00\x04demo".as_slice()
+    );
+    Ok(())
+}
+
+/// The sort attribute's name is below the partition's.
+#[test]
+fn a_context_with_a_sort_key(rt: HostRuntime) -> Result<(), Fail> {
+    let alloc = rt.alloc();
+    let header = read(alloc, &sample(alloc)?).ok().ok_or("a header")?;
+    let schema = KeySchema {
+        partition: key_name(short(&rt, alloc, "p")?),
+        sort: Some(key_name(short(&rt, alloc, "a")?)),
+    };
+    let key = KeyValue {
+        partition: AttrValue::S(short(&rt, alloc, "x")?),
+        sort: Some(AttrValue::S(short(&rt, alloc, "7")?)),
+    };
+    let table = short(&rt, alloc, "t")?;
+    let bytes = context_bytes(alloc, &schema, &table, &key, header.context())?;
+    assert_eq!(rt;
+        bytes.as_slice(),
+        b"\x00\x00\x00\x05\x00\x11aws-crypto-attr.a\x00\x03\x00\x017\x00\x11aws-crypto-attr.p\x00\x03\x00\x01x\x00\x19aws-crypto-partition-name\x00\x01p\x00\x14aws-crypto-sort-name\x00\x01a\x00\x15aws-crypto-table-name\x00\x01t\x00\x00\x00\x00".as_slice()
+    );
+    Ok(())
+}
