@@ -495,7 +495,8 @@ class Table:
             if name.startswith("aws_dbe_"):
                 refused(name=name, refused="reserved")
         for name in in_order(new):
-            if name not in (*(name for name, _, _ in keys()), *CONFIG["actions"]) and not name.startswith(CONFIG["unsigned_prefix"]):
+            is_listed = name in CONFIG["actions"] or name in [key for key, _, _ in keys()]
+            if not is_listed and not ("unsigned_prefix" in CONFIG and name.startswith(CONFIG["unsigned_prefix"])):
                 refused(name=name, refused="attribute")
         if len(new) > 1000:
             refused(refused="attributes")

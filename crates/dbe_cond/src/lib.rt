@@ -32,8 +32,4 @@ pub use reading::{one_reading, one_refusal, read, read_is_lawful};
 pub use wanted::{Wanted, wants};
 
 #[cfg(test)]
-mod meaning_tests;
-#[cfg(test)]
 mod print_tests;
-#[cfg(test)]
-mod read_tests;

@@ -65,6 +65,16 @@ fn text_of(alloc: Global, names: &Names, values: &Values, text: &str) -> Result<
     text_printed(alloc, &cond)
 }
 
+fn copy_printed(alloc: Global, cond: &Cond) -> Result<Text, Fail> {
+    let copy = cond.copy(alloc)?;
+    text_printed(alloc, &copy)
+}
+
+fn text_of_copy(alloc: Global, names: &Names, values: &Values, text: &str) -> Result<Text, Fail> {
+    let cond = condition(alloc, names, values, text)?;
+    copy_printed(alloc, &cond)
+}
+
 #[test]
 fn conditions_are_printed(rt: HostRuntime) -> Result<(), Fail> {
     let names = Names::new(rt.alloc());
@@ -75,6 +85,8 @@ fn conditions_are_printed(rt: HostRuntime) -> Result<(), Fail> {
         };
         let found = text_of(rt.alloc(), &names, &values, text)?;
         assert_eq!(rt; found.as_str(), wanted, "{text}");
+        let copied = text_of_copy(rt.alloc(), &names, &values, text)?;
+        assert_eq!(rt; copied.as_str(), wanted, "{text}");
     }
     Ok(())
 }

@@ -10,6 +10,8 @@ mod pieces;
 mod places;
 mod split;
 mod steps;
+#[cfg(test)]
+mod tests;
 mod texts;
 mod value;
 mod virtuals;
