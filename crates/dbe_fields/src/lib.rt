@@ -1,0 +1,14 @@
+//! The values of virtual fields and compounds, which are made from the attributes of an item.
+#![tactic(auto)]
+
+mod computed;
+mod extension;
+mod laws;
+mod split;
+mod value;
+
+pub use computed::is_computed;
+pub use extension::extended;
+pub use laws::{attributes_are_plain, extended_has_plain_values};
+pub use split::{SplitAt, split_fault};
+pub use value::value_of;
