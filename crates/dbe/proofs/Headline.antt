@@ -1,5 +1,5 @@
 -- Queries are answered from the map that the rows stand for.
-use Rattle.std.proofs.Common.{◌≡◌, ◌≢◌, ◌⊎◌, ℕ, Bool, true, false, if◌then◌else◌, List, [], ◌∷◌, ◌++◌, inl, inr, refl, sym, ap, ◌∙◌, subst, length, map, filter, Some, None, Result, Ok, Err, Ordering, Less, Equal, Greater, bytes_eq, suc, arith}
+use Rattle.std.proofs.Common.{◌≡◌, ◌⊎◌, ℕ, Bool, true, false, if◌then◌else◌, List, [], ◌∷◌, ◌++◌, inl, inr, refl, sym, ap, ◌∙◌, subst, length, filter, Some, None, Result, Ok, Err, Ordering, Less, Equal, Greater, bytes_eq, suc, arith}
 use Rattle.std.specs.declared.option.Option.{Option}
 use Rattle.std.specs.Io.KnownBytes.{Appends}
 use Rattle.std.specs.List.{All, AllByRecursion, flat_map}
@@ -19,22 +19,23 @@ use Rattle.std.specs.Prelude.{is_ok}
 use Rattle.dbe_values.specs.Val.{Val}
 use Rattle.dbe_cond.proofs.Readings.{reads_unique, not_refused}
 use Rattle.dbe_cond.specs.Condition.{Condition}
-use Rattle.dbe_cond.specs.Meaning.{holds}
+use Rattle.dbe_fields.specs.Split.{split_at}
 use Rattle.dbe_cond.specs.Reading.{Reads}
 use Rattle.dbe_cond.specs.declared.fault.CondFault.{CondFault}
 use Rattle.dbe_table.specs.Rows.{Row, IsTable, put_row}
 use Rattle.dbe_io.specs.Lines.{lines_of}
 use Rattle.dbe_session.specs.Requests.{request_of}
-use Rattle.dbe_session.proofs.Replies.{no_request, not_ok}
-use Rattle.dbe_session.specs.Texts.{put_text, put_refusal, select_text}
-use Rattle.dbe_session.specs.Reply.{State, Turn, IsTurn, IsReading, IsReadingOf, selected, selected_text, searched, reserved_in, query_reply, put_reply, reply_by, reply_in, reply_to, run, lines_in, replies_in}
+use Rattle.dbe_session.proofs.Replies.{no_request, not_ok, split_not_ok, asked_state}
+use Rattle.dbe_session.proofs.Computed.{selected_handed_out}
+use Rattle.dbe_session.specs.Texts.{put_text, select_text}
+use Rattle.dbe_session.specs.Reply.{State, Turn, IsTurn, IsReading, IsReadingOf, Reply, handed_out, selected_text, searchable, reserved_in, query_reply, explain_reply, asked_reply, put_reply, reply_by, reply_in, reply_to, run, lines_in, replies_in}
 use Rattle.dbe_session.specs.declared.request.Query.{Query}
 use Rattle.dbe_session.specs.declared.request.Request.{Request}
 use Rattle.dbe_session.specs.declared.request.Request.TheVariants as r
 use Rattle.dbe.specs.declared.status.Status.{Status}
-use Rattle.dbe.specs.Maps.{Items, put_item, with_request, after_line, After, select_of, Asks, IsAnswer, AreRows, Stands}
-use Rattle.dbe.specs.Run.{World, Ran, Headline, AreAnswers, AreTurnsOf}
-use Rattle.dbe.specs.Stops.{IsAfter, AreRowsBefore, Stopped, Kept, StandsBefore}
+use Rattle.dbe.specs.Maps.{Items, put_item, with_request, after_line, After, select_of, IsAnswer, AreRows, IsAcceptable, Stands}
+use Rattle.dbe.specs.Run.{World, Ran, Headline, AreAnswers}
+use Rattle.dbe.specs.Stops.{AreRowsBefore, Stopped, Kept, StandsBefore}
 
 -- the order of rows is an order
 row_total : (schema : KeySchema) → IsTotalOrder (row_order schema)
@@ -144,19 +145,19 @@ key_of_fault : (k : Result (Val × Option Val) (List ℕ)) (rest : Option PutFau
 key_of_fault (Ok k) rest is = refl
 key_of_fault (Err name) rest is = absurd (cc)
 
-acceptable_key : (c : Setting) (item : Row) → put_fault c item ≡ None → has_key c.schema item ≡ true
-acceptable_key c item fits = key_of_fault (row_key c.schema item) _ fits
+acceptable_key : (c : Setting) (item : Row) → IsAcceptable c item → has_key c.schema item ≡ true
+acceptable_key c item fits = key_of_fault (row_key c.schema item) _ fits.accepted
 
-pub put_stands : (c : Setting) (rows m : Items) (item : Row) → put_fault c item ≡ None → Stands c rows m → Stands c (put_row c.schema item rows) (put_item c.schema item m)
+pub put_stands : (c : Setting) (rows m : Items) (item : Row) → IsAcceptable c item → Stands c rows m → Stands c (put_row c.schema item rows) (put_item c.schema item m)
 put_stands c rows m item fits st =
     let same : put_row c.schema item rows ≡ put_item c.schema item m = ap (put_row c.schema item) (rows_are rows m st.are_rows) ∙ put_row-put_item c.schema item m st.is_map.order in
     let put : put_row c.schema item m ≡ put_item c.schema item m = put_row-put_item c.schema item m st.is_map.order in
     let P : Items → Type 0 = λ items. IsTable c.schema items in
-    let Q : Items → Type 0 = λ items. All (λ i. put_fault c i ≡ None) items in
+    let Q : Items → Type 0 = λ items. All (IsAcceptable c) items in
     let R : Items → Type 0 = λ items. AreRows items (put_item c.schema item m) in
     record {
       is_map = subst P put (record { keys = all_put c.schema item (λ i. has_key c.schema i ≡ true) m (acceptable_key c item fits) st.is_map.keys; order = ordered_put c.schema item m st.is_map.order });
-      acceptable = subst Q put (all_put c.schema item (λ i. put_fault c i ≡ None) m fits st.acceptable);
+      acceptable = subst Q put (all_put c.schema item (IsAcceptable c) m fits st.acceptable);
       are_rows = subst R (sym same) (are_rows_refl (put_item c.schema item m));
     }
 
@@ -166,22 +167,16 @@ same_if : {A : Type 0} (t : Bool) (m : A) → (if t then m else m) ≡ m
 same_if true m = refl
 same_if false m = refl
 
--- a put, by its fault
-put_by_fault : (c : Setting) (s : State) (m : Items) (item : Row) (fault : Option PutFault) → put_fault c item ≡ fault → Stands c s.rows m
-    → Stands c (put_reply c s item fault).state.rows (if bytes_eq (put_reply c s item fault).text put_text then put_item c.schema item m else m)
-put_by_fault c s m item None fits st = rw ((bytes_eq-Decides put_text put_text).1 refl) (put_stands c s.rows m item fits st)
-put_by_fault c s m item (Some fault) fits st = rw (not_ok fault) st
+-- a put, by its fault and its split
+put_by_fault : (c : Setting) (s : State) (m : Items) (item : Row) (fault : Option PutFault) (split : Option (List ℕ × List ℕ)) → put_fault c item ≡ fault → split_at c item ≡ split → Stands c s.rows m
+    → Stands c (put_reply c s item fault split).state.rows (if bytes_eq (put_reply c s item fault split).text put_text then put_item c.schema item m else m)
+put_by_fault c s m item (Some fault) split fits whole st = rw (not_ok fault) st
+put_by_fault c s m item None (Some at) fits whole st = rw (split_not_ok at) st
+put_by_fault c s m item None None fits whole st = rw ((bytes_eq-Decides put_text put_text).1 refl) (put_stands c s.rows m item (record { accepted = fits; unsplit = whole }) st)
 
-searched_state : (s : State) (cond : Condition) (name : Option (List ℕ)) → (searched s cond name).state ≡ s
-searched_state s cond None = refl
-searched_state s cond (Some name) = refl
-
-query_state : (s : State) (reading : Result Condition CondFault) → (query_reply s reading).state ≡ s
-query_state s (Ok cond) = searched_state s cond (reserved_in cond)
-query_state s (Err fault) = refl
-
-query_stands : (c : Setting) (s : State) (m : Items) (reading : Result Condition CondFault) → Stands c s.rows m → Stands c (query_reply s reading).state.rows m
-query_stands c s m reading st = let P : State → Type 0 = λ t. Stands c t.rows m in subst P (sym (query_state s reading)) st
+-- what is asked leaves the rows
+asked_stands : (c : Setting) (s : State) (m : Items) (reply_for : Condition → Reply) (reading : Result Condition CondFault) → ((cond : Condition) → (reply_for cond).state ≡ s) → Stands c s.rows m → Stands c (asked_reply s reply_for reading).state.rows m
+asked_stands c s m reply_for reading same st = let P : State → Type 0 = λ t. Stands c t.rows m in subst P (sym (asked_state s reply_for reading same)) st
 
 -- one request keeps that the rows stand for the map
 stands_by : (c : Setting) (s : State) (m : Items) (request : Request) (reading : Result Condition CondFault) → Stands c s.rows m
@@ -191,10 +186,11 @@ stands_by c s m r.Shape reading st = rw (same_if (bytes_eq (reply_by c s r.Shape
 stands_by c s m (r.Value name why) reading st = rw (same_if (bytes_eq (reply_by c s (r.Value name why) reading).text put_text) m) st
 stands_by c s m (r.Key name) reading st = rw (same_if (bytes_eq (reply_by c s (r.Key name) reading).text put_text) m) st
 stands_by c s m r.NotBuilt reading st = rw (same_if (bytes_eq (reply_by c s r.NotBuilt reading).text put_text) m) st
-stands_by c s m (r.Put item) reading st = put_by_fault c s m item (put_fault c item) refl st
+stands_by c s m (r.Put item) reading st = put_by_fault c s m item (put_fault c item) (split_at c item) refl refl st
 stands_by c s m (r.Get key) reading st = rw (same_if (bytes_eq (reply_by c s (r.Get key) reading).text put_text) m) st
 stands_by c s m (r.Check key) reading st = rw (same_if (bytes_eq (reply_by c s (r.Check key) reading).text put_text) m) st
-stands_by c s m (r.Query q) reading st = rw (same_if (bytes_eq (query_reply s reading).text put_text) m) (query_stands c s m reading st)
+stands_by c s m (r.Query q) reading st = rw (same_if (bytes_eq (reply_by c s (r.Query q) reading).text put_text) m) (asked_stands c s m (query_reply c s) reading (λ cond. refl) st)
+stands_by c s m (r.Explain q) reading st = rw (same_if (bytes_eq (reply_by c s (r.Explain q) reading).text put_text) m) (asked_stands c s m (explain_reply c s) reading (λ cond. refl) st)
 
 -- ---- lines and turns
 
@@ -210,21 +206,11 @@ text_joined : (c : Setting) (s : State) (turns : List Turn) → (run c s turns).
 text_joined c s [] = refl
 text_joined c s (turn ∷ turns) = ap (λ (text : List ℕ). (reply_to c s turn).text ++ text) (text_joined c (reply_to c s turn).state turns) ∙ sym (flat_map-cons (λ reply. reply) (reply_to c s turn).text (replies_in c (reply_to c s turn).state turns))
 
--- a filter that is asked twice
-filter_if : (p : Row → Bool) (x : Row) (xs : Items) (t : Bool) → p x ≡ t → filter p xs ≡ xs → filter p (if t then x ∷ xs else xs) ≡ (if t then x ∷ xs else xs)
-filter_if p x xs true e h = rw (e, h) refl
-filter_if p x xs false e h = h
-
-filter_twice : (p : Row → Bool) (xs : Items) → filter p (filter p xs) ≡ filter p xs
-filter_twice p [] = refl
-filter_twice p (x ∷ xs) = filter_if p x (filter p xs) (p x) refl (filter_twice p xs)
-
 -- a query's reply is that of the map
-query_is : (c : Setting) (s : State) (m : Items) (cond : Condition) → Stands c s.rows m → selected_text cond (selected cond s.rows) ≡ select_text (select_of cond m) (length (select_of cond m))
+query_is : (c : Setting) (s : State) (m : Items) (cond : Condition) → Stands c s.rows m → (query_reply c s cond).text ≡ select_text (select_of c cond m) (length (handed_out c cond m))
 query_is c s m cond st =
-    let found : Items = selected cond s.rows in
-    let same : found ≡ select_of cond m = ap (filter (holds cond)) (rows_are s.rows m st.are_rows) in
-    ap (λ items. select_text items (length found)) (filter_twice (holds cond) s.rows ∙ same) ∙ ap (λ items. select_text (select_of cond m) (length items)) same
+    ap (λ rows. selected_text c cond (handed_out c cond rows)) (rows_are s.rows m st.are_rows)
+    ∙ ap (λ items. select_text items (length (handed_out c cond m))) (selected_handed_out c cond m)
 
 -- what a query's text reads as
 reading_is : (q : Query) (reading : Result Condition CondFault) (cond : Condition) → IsReading q reading → Reads q.text q.names q.values cond → reading ≡ Ok cond
@@ -232,13 +218,13 @@ reading_is q (Ok d) cond is reads = ap Ok (reads_unique q.text q.names q.values 
 reading_is q (Err fault) cond is reads = absurd (is.0 (not_refused q.text q.names q.values cond fault reads is.1))
 
 answer_by : (c : Setting) (s : State) (m : Items) (request : Request) (reading : Result Condition CondFault) (q : Query) (cond : Condition) → IsReadingOf request reading → Stands c s.rows m
-    → request ≡ r.Query q → Reads q.text q.names q.values cond → reserved_in cond ≡ None → (reply_by c s request reading).text ≡ select_text (select_of cond m) (length (select_of cond m))
-answer_by c s m request reading q cond is_reading st is reads searchable =
+    → request ≡ r.Query q → Reads q.text q.names q.values cond → reserved_in cond ≡ None → (reply_by c s request reading).text ≡ select_text (select_of c cond m) (length (handed_out c cond m))
+answer_by c s m request reading q cond is_reading st is reads unreserved =
     let P : Request → Type 0 = λ request. IsReadingOf request reading in
     let same : reading ≡ Ok cond = reading_is q reading cond (subst P is is_reading) reads in
     ap (λ request. (reply_by c s request reading).text) is
-    ∙ ap (λ reading. (query_reply s reading).text) same
-    ∙ ap (λ name. (searched s cond name).text) searchable
+    ∙ ap (λ reading. (asked_reply s (query_reply c s) reading).text) same
+    ∙ ap (λ name. (searchable s name (query_reply c s cond)).text) unreserved
     ∙ query_is c s m cond st
 
 -- an empty line asks nothing
@@ -282,10 +268,11 @@ headline before after (c, uses, ran) = (
 )
 
 -- the rows after one line more stand for the map after it, or for the map before
-next_put : (c : Setting) (s : State) (m : Items) (item : Row) (fault : Option PutFault) → put_fault c item ≡ fault → Stands c s.rows m
-    → Stands c (put_reply c s item fault).state.rows m ⊎ Stands c (put_reply c s item fault).state.rows (put_item c.schema item m)
-next_put c s m item None fits st = inr (put_stands c s.rows m item fits st)
-next_put c s m item (Some fault) fits st = inl st
+next_put : (c : Setting) (s : State) (m : Items) (item : Row) (fault : Option PutFault) (split : Option (List ℕ × List ℕ)) → put_fault c item ≡ fault → split_at c item ≡ split → Stands c s.rows m
+    → Stands c (put_reply c s item fault split).state.rows m ⊎ Stands c (put_reply c s item fault split).state.rows (put_item c.schema item m)
+next_put c s m item (Some fault) split fits whole st = inl st
+next_put c s m item None (Some at) fits whole st = inl st
+next_put c s m item None None fits whole st = inr (put_stands c s.rows m item (record { accepted = fits; unsplit = whole }) st)
 
 next_by : (c : Setting) (s : State) (m : Items) (request : Request) (reading : Result Condition CondFault) → Stands c s.rows m
     → Stands c (reply_by c s request reading).state.rows m ⊎ Stands c (reply_by c s request reading).state.rows (with_request c.schema m request)
@@ -294,10 +281,11 @@ next_by c s m r.Shape reading st = inl st
 next_by c s m (r.Value name why) reading st = inl st
 next_by c s m (r.Key name) reading st = inl st
 next_by c s m r.NotBuilt reading st = inl st
-next_by c s m (r.Put item) reading st = next_put c s m item (put_fault c item) refl st
+next_by c s m (r.Put item) reading st = next_put c s m item (put_fault c item) (split_at c item) refl refl st
 next_by c s m (r.Get key) reading st = inl st
 next_by c s m (r.Check key) reading st = inl st
-next_by c s m (r.Query q) reading st = inl (query_stands c s m reading st)
+next_by c s m (r.Query q) reading st = inl (asked_stands c s m (query_reply c s) reading (λ cond. refl) st)
+next_by c s m (r.Explain q) reading st = inl (asked_stands c s m (explain_reply c s) reading (λ cond. refl) st)
 
 stands_next : (c : Setting) (s : State) (m : Items) (line : List ℕ) (reading : Result Condition CondFault) → Stands c s.rows m
     → Stands c (reply_in c s line reading).state.rows m ⊎ Stands c (reply_in c s line reading).state.rows (after_line c m line put_text)
@@ -328,9 +316,9 @@ kept status before after (c, uses, stopped) = (
       ),
 )
 
-pub map_stands : (c : Setting) (m : Items) → IsTable c.schema m → All (λ item. put_fault c item ≡ None) m → Stands c m m
+pub map_stands : (c : Setting) (m : Items) → IsTable c.schema m → All (IsAcceptable c) m → Stands c m m
 map_stands c m table fits = record { is_map = table; acceptable = fits; are_rows = are_rows_refl m }
 
 pub nothing_stands : (c : Setting) → Stands c [] []
 unfolding IsStrictlySortedBy
-nothing_stands c = map_stands c [] (record { keys = All-nil (λ row. has_key c.schema row ≡ true); order = tt }) (All-nil (λ item. put_fault c item ≡ None))
+nothing_stands c = map_stands c [] (record { keys = All-nil (λ row. has_key c.schema row ≡ true); order = tt }) (All-nil (IsAcceptable c))

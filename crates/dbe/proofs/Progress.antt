@@ -15,10 +15,10 @@ use Rattle.dbe_config.specs.Setting.{Setting}
 use Rattle.dbe_table.specs.Rows.{Row, risen}
 use Rattle.dbe_session.specs.Reply.{State, Turn, IsTurn, reply_to, run, lines_in}
 use Rattle.dbe_session.specs.Steps.{Answered}
-use Rattle.dbe_session.proofs.Counts.{risen_none, risen_twice}
+use Rattle.dbe_session.proofs.Counts.{risen_twice}
 use Rattle.dbe.specs.Run.{World, Replied, AreTurnsOf}
 use Rattle.dbe.specs.Turns.{Turned, TurnedDown, IsOfReply}
-use Rattle.dbe.specs.Stops.{IsAfter, IsFrontOf, AreRowsBefore, IsPieceOf, StopsFor, StoppedAt}
+use Rattle.dbe.specs.Stops.{AreRowsBefore, IsPieceOf, StopsFor, StoppedAt}
 use Rattle.dbe.specs.declared.status.Status.{Status}
 use Rattle.dbe.specs.declared.status.Status.TheVariants as s
 use Rattle.dbe.proofs.ReadSoFar.{ReadSoFar, ReadSoFar-more, ReadSoFar-none, pulled_from}

@@ -1,4 +1,3 @@
-pub mod Served
 pub mod Maps
 pub mod Run
 pub mod Stops

@@ -7,12 +7,14 @@ use Rattle.dbe_values.specs.declared.key.KeySchema.{KeySchema}
 use Rattle.dbe_values.specs.Keys.{row_order}
 use Rattle.dbe_config.specs.Setting.{Setting}
 use Rattle.dbe_item.specs.Acceptance.{put_fault}
+use Rattle.dbe_fields.specs.Extended.{extended}
+use Rattle.dbe_fields.specs.Split.{split_at}
 use Rattle.dbe_cond.specs.Condition.{Condition}
 use Rattle.dbe_cond.specs.Meaning.{holds}
 use Rattle.dbe_cond.specs.Reading.{Reads}
 use Rattle.dbe_table.specs.Rows.{IsTable}
 use Rattle.dbe_session.specs.Requests.{request_of}
-use Rattle.dbe_session.specs.Reply.{reserved_in}
+use Rattle.dbe_session.specs.Reply.{reserved_in, handed_out}
 use Rattle.dbe_session.specs.Texts.{put_text, select_text}
 use Rattle.dbe_session.specs.declared.request.Query.{Query}
 use Rattle.dbe_session.specs.declared.request.Request.{Request}
@@ -37,6 +39,7 @@ with_request schema m r.NotBuilt = m
 with_request schema m (r.Get key) = m
 with_request schema m (r.Check key) = m
 with_request schema m (r.Query q) = m
+with_request schema m (r.Explain q) = m
 
 -- The map after a line that got this reply: a put that was answered with ok puts its item, and every other line leaves the map.
 abbrev pub after_line : Setting → Items → List ℕ → List ℕ → Items
@@ -48,9 +51,9 @@ After c m [] replies = m
 After c m (line ∷ lines) [] = m
 After c m (line ∷ lines) (reply ∷ replies) = After c (after_line c m line reply) lines replies
 
--- the items of which a condition holds, in key order
-abbrev pub select_of : Condition → Items → Items
-select_of cond m = filter (holds cond) m
+-- the items of which a condition holds, each with its virtual fields and compounds, in key order
+abbrev pub select_of : Setting → Condition → Items → Items
+select_of c cond m = filter (λ item. holds cond (extended c item)) m
 
 -- The line asks a query whose text reads as this condition, and no name in it is one that dbe keeps for itself.
 pub record Asks (c : Setting) (line : List ℕ) (cond : Condition) : Type 0 where
@@ -59,9 +62,9 @@ pub record Asks (c : Setting) (line : List ℕ) (cond : Condition) : Type 0 wher
   pub reads : Reads query.text query.names query.values cond
   pub searchable : reserved_in cond ≡ None
 
--- A query's reply is a line for each item of the map of which its condition holds, in key order, and then the line that counts them. A plain table hands out just these.
+-- A query's reply is a line for each item of the map of which its condition holds, in key order, and then the line that counts them and what the table handed out: all items where a virtual field or a compound stands in the condition, else those of which it holds.
 abbrev pub IsAnswer : Setting → Items → List ℕ → List ℕ → Type 0
-IsAnswer c m line reply = (cond : Condition) → Asks c line cond → reply ≡ select_text (select_of cond m) (length (select_of cond m))
+IsAnswer c m line reply = (cond : Condition) → Asks c line cond → reply ≡ select_text (select_of c cond m) (length (handed_out c cond m))
 
 -- A row of a plain table stands for the item that it is.
 abbrev pub AreRows : Items → Items → Type 0
@@ -70,8 +73,13 @@ AreRows [] (item ∷ items) = ⊥
 AreRows (row ∷ rows) [] = ⊥
 AreRows (row ∷ rows) (item ∷ items) = (row ≡ item) × AreRows rows items
 
+-- An item may be stored: it has none of the faults of a put, and no used part of a compound has its split character.
+pub record IsAcceptable (setting : Setting) (item : List (List ℕ × AttrValue)) : Type 0 where
+  pub accepted : put_fault setting item ≡ None
+  pub unsplit : split_at setting item ≡ None
+
 -- The rows stand for a map of acceptable items: one row for each key, in key order.
 pub record Stands (setting : Setting) (rows m : Items) : Type 0 where
   pub is_map : IsTable setting.schema m
-  pub acceptable : All (λ item. put_fault setting item ≡ None) m
+  pub acceptable : All (IsAcceptable setting) m
   pub are_rows : AreRows rows m

@@ -1,7 +1,7 @@
 -- What is within the rules of a run, and when the configuration is refused.
 use Rattle.std.specs.Prelude.{◌≡◌, ◌≢◌, ◌⊎◌, ◌<◌, ◌≤◌, ℕ, List, ◌++◌, length, Some, Err, IsOk}
 use Rattle.std.specs.declared.option.Option.{Option}
-use Rattle.dbe.specs.Served.{configured}
+use Rattle.dbe_config.specs.Configured.{configured}
 use Rattle.dbe.specs.Stops.{HasLongLine}
 use Rattle.dbe_config.specs.declared.fault.ConfigFault.{ConfigFault}
 use Rattle.dbe_config.specs.declared.fault.ConfigFault.TheVariants as f

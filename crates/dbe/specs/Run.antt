@@ -8,7 +8,7 @@ use Rattle.dbe_io.specs.Lines.{lines_of}
 use Rattle.dbe_config.specs.Setting.{Setting}
 use Rattle.dbe_table.specs.Rows.{Row, risen}
 use Rattle.dbe_session.specs.Reply.{State, Turn, IsTurn, reply_to, run, replies_in, lines_in}
-use Rattle.dbe.specs.Served.{configured}
+use Rattle.dbe_config.specs.Configured.{configured}
 use Rattle.dbe.specs.Maps.{Items, After, IsAnswer, Stands}
 
 -- what the objects that were handed in tell

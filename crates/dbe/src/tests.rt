@@ -320,8 +320,8 @@ fn requests_have_a_form(rt: HostRuntime) -> Result<(), Fail> {
 {\"query\":{\"condition\":\"id = id\",\"names\":{\"#n\":5}}}
 {\"query\":{\"condition\":\"id = id\",\"values\":{\"#v\":{\"S\":\"\"}}}}
 {\"query\":{\"condition\":\"id = id\",\"values\":{\":v\":{\"S\":\"\"}},\"names\":{}}}
-{\"explain\":{\"condition\":\"id = id\"}}
 {\"explain\":{}}
+{\"explain\":{\"condition\":\"id = id\",\"names\":{\"n\":\"id\"}}}
 {\"rotate\":\"main\"}
 {\"rotate\":\"\"}
 {\"rotate\":5}",
@@ -342,7 +342,7 @@ fn requests_have_a_form(rt: HostRuntime) -> Result<(), Fail> {
 {\"refused\":\"shape\"}
 {\"refused\":\"shape\"}
 {\"count\":0,\"scanned\":0}
-{\"refused\":\"not built\"}
+{\"refused\":\"shape\"}
 {\"refused\":\"shape\"}
 {\"refused\":\"not built\"}
 {\"refused\":\"shape\"}
@@ -392,6 +392,102 @@ fn puts_are_refused_in_an_order(rt: HostRuntime) -> Result<(), Fail> {
 }
 
 #[test]
+fn conditions_are_explained(rt: HostRuntime) -> Result<(), Fail> {
+    answers(
+        &rt,
+        rt.alloc(),
+        AGES,
+        "{\"explain\":{\"condition\":\"a = :x AND b = :y OR NOT c = :z\",\"values\":{\":x\":{\"N\":\"1\"},\":y\":{\"N\":\"2\"},\":z\":{\"N\":\"3\"}}}}
+{\"explain\":{\"condition\":\"id = id\"}}
+{\"explain\":{\"condition\":\"id = \"}}
+{\"explain\":{\"condition\":\"NOT attribute_exists(#n)\",\"names\":{\"#n\":\"aws_dbe_head\"}}}
+{\"explain\":{\"condition\":\"id = :v\",\"values\":{\":v\":{\"S\":5}}}}",
+        "{\"condition\":\"#0 = :0 AND #1 = :1 OR NOT #2 = :2\",\"names\":{\"#0\":\"a\",\"#1\":\"b\",\"#2\":\"c\"},\"values\":{\":0\":{\"N\":\"1\"},\":1\":{\"N\":\"2\"},\":2\":{\"N\":\"3\"}}}
+{\"condition\":\"#0 = #1\",\"names\":{\"#0\":\"id\",\"#1\":\"id\"},\"values\":{}}
+{\"at\":5,\"refused\":\"condition\",\"why\":\"Syntax\"}
+{\"name\":\"aws_dbe_head\",\"refused\":\"rewriting\",\"why\":\"NotSearchable\"}
+{\"name\":\":v\",\"refused\":\"value\",\"why\":\"Shape\"}
+",
+    )
+}
+
+const SAMPLE: &str = "{\"table\":\"people\",\"partition\":{\"name\":\"id\",\"type\":\"S\"},
+\"actions\":{\"ssn\":\"ENCRYPT_AND_SIGN\",\"state\":\"ENCRYPT_AND_SIGN\",\"town\":\"SIGN_ONLY\",\"email\":\"ENCRYPT_AND_SIGN\",\"age\":\"ENCRYPT_AND_SIGN\",\"name\":\"ENCRYPT_AND_SIGN\",\"phone\":\"ENCRYPT_AND_SIGN\",\"photo\":\"ENCRYPT_AND_SIGN\",\"tags\":\"SIGN_ONLY\",\"active\":\"SIGN_ONLY\",\"note\":\"DO_NOTHING\"},
+\"unsigned_prefix\":\":\",\"context\":{\"app\":\"demo\"},
+\"recipients\":[],
+\"beacon_branch\":\"main\",
+\"virtual\":[{\"name\":\"domain\",\"parts\":[{\"from\":\"email\",\"steps\":[[\"segment\",\"@\",1],[\"lower\"]]}]}],
+\"beacons\":[{\"name\":\"ssn\",\"length\":16},{\"name\":\"state\",\"length\":8},{\"name\":\"domain\",\"length\":10}],
+\"compounds\":[{\"name\":\"place\",\"split\":\".\",\"parts\":[{\"name\":\"st\",\"prefix\":\"S-\",\"kind\":\"encrypted\",\"from\":\"state\"},{\"name\":\"tn\",\"prefix\":\"T-\",\"kind\":\"signed\",\"from\":\"town\"}]}]}";
+
+#[test]
+fn compounds_are_asked_over_every_row(rt: HostRuntime) -> Result<(), Fail> {
+    answers(
+        &rt,
+        rt.alloc(),
+        SAMPLE,
+        "{\"put\":{\"id\":{\"S\":\"1\"},\"state\":{\"S\":\"WA\"},\"town\":{\"S\":\"1\"}}}
+{\"put\":{\"id\":{\"S\":\"2\"},\"state\":{\"S\":\"WASH\"},\"town\":{\"S\":\"9\"}}}
+{\"put\":{\"id\":{\"S\":\"3\"},\"state\":{\"S\":\"OR\"},\"town\":{\"S\":\"2\"}}}
+{\"query\":{\"condition\":\"begins_with(place, :p)\",\"values\":{\":p\":{\"S\":\"S-WA\"}}}}
+{\"query\":{\"condition\":\"begins_with(place, :p)\",\"values\":{\":p\":{\"S\":\"X\"}}}}
+{\"query\":{\"condition\":\"place = :p\",\"values\":{\":p\":{\"S\":\"S-OR.T-2\"}}}}
+{\"query\":{\"condition\":\"town = :t\",\"values\":{\":t\":{\"S\":\"9\"}}}}
+{\"explain\":{\"condition\":\"town = :t OR attribute_exists(place)\",\"values\":{\":t\":{\"S\":\"9\"}}}}
+{\"explain\":{\"condition\":\"town = :t\",\"values\":{\":t\":{\"S\":\"9\"}}}}",
+        "{\"ok\":\"put\"}
+{\"ok\":\"put\"}
+{\"ok\":\"put\"}
+{\"item\":{\"id\":{\"S\":\"1\"},\"state\":{\"S\":\"WA\"},\"town\":{\"S\":\"1\"}}}
+{\"item\":{\"id\":{\"S\":\"2\"},\"state\":{\"S\":\"WASH\"},\"town\":{\"S\":\"9\"}}}
+{\"count\":2,\"scanned\":3}
+{\"count\":0,\"scanned\":3}
+{\"item\":{\"id\":{\"S\":\"3\"},\"state\":{\"S\":\"OR\"},\"town\":{\"S\":\"2\"}}}
+{\"count\":1,\"scanned\":3}
+{\"item\":{\"id\":{\"S\":\"2\"},\"state\":{\"S\":\"WASH\"},\"town\":{\"S\":\"9\"}}}
+{\"count\":1,\"scanned\":1}
+{\"every\":true}
+{\"condition\":\"#0 = :0\",\"names\":{\"#0\":\"town\"},\"values\":{\":0\":{\"S\":\"9\"}}}
+",
+    )
+}
+
+#[test]
+fn a_part_with_the_split_character_is_refused(rt: HostRuntime) -> Result<(), Fail> {
+    answers(
+        &rt,
+        rt.alloc(),
+        SAMPLE,
+        "{\"put\":{\"id\":{\"S\":\"9\"},\"state\":{\"S\":\"W.A\"},\"town\":{\"S\":\"1\"}}}
+{\"get\":{\"id\":{\"S\":\"9\"}}}
+{\"put\":{\"id\":{\"S\":\"9\"},\"state\":{\"S\":\"W.A\"},\"town\":{\"S\":\"1\"},\"zip\":{\"S\":\"1\"}}}
+{\"put\":{\"id\":{\"S\":\"9\"},\"state\":{\"S\":\"W.A\"}}}
+{\"query\":{\"condition\":\"attribute_exists(place)\"}}",
+        "{\"beacon\":\"place\",\"part\":\"st\",\"refused\":\"split\"}
+{\"none\":true}
+{\"name\":\"zip\",\"refused\":\"attribute\"}
+{\"ok\":\"put\"}
+{\"count\":0,\"scanned\":1}
+",
+    )
+}
+
+#[test]
+fn a_virtual_field_and_a_compound_find_an_item(rt: HostRuntime) -> Result<(), Fail> {
+    answers(
+        &rt,
+        rt.alloc(),
+        SAMPLE,
+        "{\"put\":{\"id\":{\"S\":\"c-1\"},\"ssn\":{\"S\":\"123-45-6789\"},\"state\":{\"S\":\"WA\"},\"town\":{\"S\":\"Seattle\"},\"email\":{\"S\":\"Ann@Example.COM\"},\"age\":{\"N\":\"41.0\"},\"note\":{\"S\":\"vip\"},\"name\":{\"S\":\"Ann\"},\"phone\":{\"S\":\"555-0100\"},\"photo\":{\"B\":\"AAEC\"},\"active\":{\"BOOL\":true},\"tags\":{\"SS\":[\"b\",\"a\"]}}}
+{\"query\":{\"condition\":\"domain = :d AND begins_with(place, :p)\",\"values\":{\":d\":{\"S\":\"example.com\"},\":p\":{\"S\":\"S-WA.T-Sea\"}}}}",
+        "{\"ok\":\"put\"}
+{\"item\":{\"active\":{\"BOOL\":true},\"age\":{\"N\":\"41\"},\"email\":{\"S\":\"Ann@Example.COM\"},\"id\":{\"S\":\"c-1\"},\"name\":{\"S\":\"Ann\"},\"note\":{\"S\":\"vip\"},\"phone\":{\"S\":\"555-0100\"},\"photo\":{\"B\":\"AAEC\"},\"ssn\":{\"S\":\"123-45-6789\"},\"state\":{\"S\":\"WA\"},\"tags\":{\"SS\":[\"a\",\"b\"]},\"town\":{\"S\":\"Seattle\"}}}
+{\"count\":1,\"scanned\":1}
+",
+    )
+}
+
+#[test]
 fn configurations_are_refused(rt: HostRuntime) -> Result<(), Fail> {
     let cases = [
         ("", ConfigFault::NotJson),
@@ -411,10 +507,6 @@ fn configurations_are_refused(rt: HostRuntime) -> Result<(), Fail> {
         ),
         (
             "{\"table\":\"t\",\"partition\":{\"name\":\"id\",\"type\":\"S\"},\"actions\":{},\"recipients\":[{\"kind\":\"branch\",\"branch\":\"main\"}]}",
-            ConfigFault::NotBuilt,
-        ),
-        (
-            "{\"table\":\"t\",\"partition\":{\"name\":\"id\",\"type\":\"S\"},\"actions\":{},\"recipients\":[],\"virtual\":[{\"name\":\"v\",\"parts\":[{\"from\":\"id\",\"steps\":[]}]}]}",
             ConfigFault::NotBuilt,
         ),
         (

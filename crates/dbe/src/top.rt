@@ -5,7 +5,7 @@ ghost use Rattle.dbe_io.specs.Causes.{Rose};
 ghost use Rattle.dbe_io.specs.Lines.{lines_of};
 ghost use Rattle.dbe_session.specs.Reply.{State};
 ghost use Rattle.dbe.specs.Run.{Ran, RanWith, Headline, World};
-ghost use Rattle.dbe.specs.Served.{configured, is_built};
+ghost use Rattle.dbe_config.specs.Configured.{configured};
 ghost use Rattle.dbe.specs.Rules.{IsRefused, IsOfConfig, IsOfReading, IsFrontOf, IsWithinRules};
 ghost use Rattle.dbe_config.specs.declared.fault.ConfigFault.{ConfigFault as the_fault};
 ghost use Rattle.dbe.specs.Stops.{Stopped, StoppedWith, Kept, HasLongLine};
@@ -130,23 +130,10 @@ fn read_config<C: Source>(alloc: Global, source: &mut C) -> Result<Config, Statu
 {
     let bytes = read_front(alloc, source)?;
     match Config::read(alloc, &bytes) {
-        Ok(config) => {
-            if is_built(&config) {
-                Ok(config)
-            } else {
-                Err(Status::Config(ConfigFault::NotBuilt))
-            }
-        }
+        Ok(config) => Ok(config),
         Err(ConfigFault::Memory) => Err(Status::Memory),
         Err(fault) => Err(Status::Config(fault)),
     }
-}
-
-// Whether all of a configuration is built.
-fn is_built(config: &Config) -> bool
-    ensures { result ≡ is_built config.now }
-{
-    config.virtuals().is_empty() && config.compounds().is_empty()
 }
 
 // The bytes of a source, to its end or to the first byte past the most that a configuration has.

@@ -1,5 +1,5 @@
 -- Placeholders read one after another.
-use Rattle.std.proofs.Common.{◌≡◌, ◌≢◌, ℕ, true, List, [], ◌∷◌, ◌++◌, Result, Ok, Err, Less, nat_cmp, refl, sym, ap, ◌∙◌, subst, append_assoc, append-nil, map, String, string_bytes, string_cmp, Global, if◌then◌else◌}
+use Rattle.std.proofs.Common.{◌≡◌, ℕ, true, List, [], ◌∷◌, ◌++◌, Result, Ok, Err, Less, nat_cmp, refl, sym, ap, ◌∙◌, subst, append_assoc, map, String, string_bytes, string_cmp, Global, if◌then◌else◌}
 use Rattle.std.specs.Cmp.Lexicographic.{slice_cmp}
 use Rattle.std.specs.List.{AllByRecursion}
 use Rattle.std.specs.List.Sorted.{IsStrictlySortedBy}

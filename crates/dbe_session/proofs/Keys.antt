@@ -19,9 +19,10 @@ use Rattle.dbe_values.specs.declared.key.KeyValue.{KeyValue}
 use Rattle.dbe_values.proofs.Unviewed.{view-attr_of}
 use Rattle.dbe_config.specs.Setting.{Setting}
 use Rattle.dbe_table.specs.Rows.{Row}
-use Rattle.dbe_session.specs.Queries.{Asked, Faulty, has_form, asked_in}
-use Rattle.dbe_session.specs.Requests.{put_in, key_value, with_key, keyed_by, is_key_object, key_in, asked_by, query_in, explain_in, is_id, id_in, or_other, request_in, request_of}
+use Rattle.dbe_session.specs.Queries.{Faulty, has_form, asked_in}
+use Rattle.dbe_session.specs.Requests.{put_in, key_value, with_key, keyed_by, is_key_object, key_in, asked_by, is_id, or_other, request_in, request_of}
 use Rattle.dbe_session.specs.Steps.{HasLawfulKey}
+use Rattle.dbe_session.specs.declared.request.Query.{Query}
 use Rattle.dbe_session.specs.declared.request.Request.{Request}
 use Rattle.dbe_session.specs.declared.request.Request.TheVariants as r
 
@@ -94,13 +95,14 @@ put_is st (Ok es) = tt
 put_is st (Err NotObject) = tt
 put_is st (Err (At name why)) = tt
 
-asked_is : (st : Setting) (read : Result Asked Faulty) → HasLawfulKey st (asked_by r.Query read)
-asked_is st (Ok a) = tt
-asked_is st (Err f) = tt
+module _ (st : Setting) (make : Query → Request) (each : (q : Query) → HasLawfulKey st (make q)) where
+  asked_is : (read : Result Query Faulty) → HasLawfulKey st (asked_by make read)
+  asked_is (Ok q) = each q
+  asked_is (Err f) = tt
 
-if_asked : (st : Setting) (t : Bool) (read : Result Asked Faulty) → HasLawfulKey st (if t then asked_by r.Query read else r.Shape)
-if_asked st true read = asked_is st read
-if_asked st false read = tt
+  if_asked : (t : Bool) (read : Result Query Faulty) → HasLawfulKey st (if t then asked_by make read else r.Shape)
+  if_asked true read = asked_is read
+  if_asked false read = tt
 
 if_built : (st : Setting) (t : Bool) → HasLawfulKey st (if t then r.NotBuilt else r.Shape)
 if_built st true = tt
@@ -119,9 +121,9 @@ in_is st None = tt
 in_is st (Some d) = if_one st (size_of d == 1) _
     (or_is st (get (codes "put") d) _ _ (λ item. put_is st (item_in item))
     (or_is st (get (codes "get") d) _ _ (key_is st r.Get (λ key is. is))
-    (or_is st (get (codes "query") d) _ _ (λ q. if_asked st (has_form q) (asked_in q))
+    (or_is st (get (codes "query") d) _ _ (λ q. if_asked st r.Query (λ q. tt) (has_form q) (asked_in q))
     (or_is st (get (codes "check") d) _ _ (key_is st r.Check (λ key is. is))
-    (or_is st (get (codes "explain") d) _ _ (λ q. if_built st (has_form q))
+    (or_is st (get (codes "explain") d) _ _ (λ q. if_asked st r.Explain (λ q. tt) (has_form q) (asked_in q))
     (or_is st (get (codes "create") d) _ _ (λ id. if_built st (is_id (as_str id)))
     (or_is st (get (codes "rotate") d) _ _ (λ id. if_built st (is_id (as_str id))) tt)))))))
 

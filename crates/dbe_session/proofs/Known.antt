@@ -1,11 +1,11 @@
 -- What is known of requests that were read.
-use Rattle.std.proofs.Common.{◌≡◌, ℕ, List, [], ◌∷◌, true, false, Bool, Option, Some, None, Result, Ok, Err, refl, sym, ap, ◌∙◌, subst, map}
+use Rattle.std.proofs.Common.{◌≡◌, ℕ, List, Option, Some, None, Result, Ok, Err, refl, sym, ap, ◌∙◌, map}
 use Rattle.std.specs.Prelude.{option_map}
-use Rattle.dbe_values.specs.Val.{Val, Entries}
-use Rattle.dbe_values.specs.View.{view, attr_of, entry_view, entries_of, attributes_of}
+use Rattle.dbe_values.specs.Val.{Entries}
+use Rattle.dbe_values.specs.View.{view, attr_of, entry_view, entries_of}
 use Rattle.dbe_values.specs.Items.{GivesItem}
 use Rattle.dbe_values.specs.Keys.{row_key}
-use Rattle.dbe_values.specs.KeyValues.{key_view, GivesKey}
+use Rattle.dbe_values.specs.KeyValues.{key_view}
 use Rattle.dbe_values.specs.declared.value.AttrValue.{AttrValue}
 use Rattle.dbe_values.specs.declared.fault.ItemFault.{ItemFault}
 use Rattle.dbe_values.specs.declared.fault.ItemFault.TheVariants.{NotObject, At}

@@ -8,6 +8,7 @@ use Rattle.dbe_item.specs.Acceptance.{put_fault}
 use Rattle.dbe_item.specs.declared.fault.PutFault.{PutFault}
 use Rattle.dbe_item.specs.declared.fault.PutFault.TheVariants as p
 use Rattle.dbe_cond.specs.declared.fault.CondFault.TheVariants as c
+use Rattle.dbe_fields.specs.Split.{split_at}
 use Rattle.dbe_table.specs.Rows.{Row, row_at, put_row, risen, found_count}
 use Rattle.std.proofs.lemmas.Bool.Decides.{nat_tests}
 use Rattle.std.specs.Str.{is_utf8}
@@ -19,9 +20,9 @@ use Rattle.dbe_cond.specs.Condition.{Condition}
 use Rattle.dbe_cond.specs.Reading.{Reads, Refuses}
 use Rattle.dbe_cond.specs.declared.fault.CondFault.{CondFault}
 use Rattle.dbe_session.specs.Requests.{request_of, request_in}
-use Rattle.dbe_session.specs.Texts.{put_text, put_refusal, cond_refusal}
-use Rattle.dbe_session.specs.Reply.{State, Turn, IsTurn, IsReadingOf, found_text, checked, row_of, put_reply, searched, reserved_in, reply_by, reply_to}
-use Rattle.dbe_session.specs.Steps.{Replied, Kept, Answered, Undone}
+use Rattle.dbe_session.specs.Texts.{put_text, split_text, put_refusal, cond_refusal}
+use Rattle.dbe_session.specs.Reply.{State, Turn, Reply, IsTurn, IsReadingOf, found_text, checked, row_of, put_reply, query_reply, explain_reply, searchable, reserved_in, asked_reply, reply_by, reply_to}
+use Rattle.dbe_session.specs.Steps.{Replied, Kept, Answered, Undone, IsReply, IsGivenBy}
 use Rattle.dbe_session.specs.declared.request.Query.{Query}
 use Rattle.dbe_session.specs.declared.request.Request.{Request}
 use Rattle.dbe_session.specs.declared.request.Request.TheVariants as r
@@ -55,54 +56,102 @@ module _ (st : Setting) (s : State) (key : KeyValue) (begun : Option KeySchema) 
   pub not_looked : Kept st s (r.Check key) rows' before after
   not_looked = record { same_rows = same ∙ are; given = inr (Err c.Memory, tt, given_is) }
 
--- a put that was made
-pub put_made : (st : Setting) (s : State) (item : Row) (begun : Option KeySchema) (rows rows' : Option (List Row)) (before after : ℕ) (text : List ℕ) → begun ≡ Some st.schema → rows ≡ Some s.rows → put_fault st item ≡ None
-    → IfSome begun (λ schema. IfSome rows (λ b. rows' ≡ Some (put_row schema item b))) → after ≡ before → text ≡ put_text → Replied st s (r.Put item) text rows' before after
-put_made st s item begun rows rows' before after text is_begun are fits answered given is = record {
-  reading = Err c.Memory;
-  is_reading = tt;
-  is_text = is ∙ ap (λ f. (put_reply st s item f).text) (sym fits);
-  are_rows = some_at rows (λ b. rows' ≡ Some (put_row st.schema item b)) s.rows are (some_at begun (λ schema. IfSome rows (λ b. rows' ≡ Some (put_row schema item b))) st.schema is_begun answered) ∙ ap (λ f. Some (put_reply st s item f).state.rows) (sym fits);
-  given = given ∙ sym (risen_none before) ∙ ap (λ f. risen before (put_reply st s item f).given) (sym fits);
-}
+-- a put, by its fault and its split
+module _ (st : Setting) (s : State) (item : Row) where
+  put_by : (fault : Option PutFault) (split : Option (List ℕ × List ℕ)) → put_fault st item ≡ fault → split_at st item ≡ split → put_reply st s item (put_fault st item) (split_at st item) ≡ put_reply st s item fault split
+  put_by fault split fits whole = ap (λ f. put_reply st s item f (split_at st item)) fits ∙ ap (put_reply st s item fault) whole
 
--- a put that is refused
-pub put_refused : (st : Setting) (s : State) (item : Row) (rows : Option (List Row)) (count : ℕ) (fault : PutFault) (text : List ℕ) → rows ≡ Some s.rows → put_fault st item ≡ Some fault → text ≡ put_refusal fault → Replied st s (r.Put item) text rows count count
-put_refused st s item rows count fault text are refused is = record {
-  reading = Err c.Memory;
-  is_reading = tt;
-  is_text = is ∙ ap (λ f. (put_reply st s item f).text) (sym refused);
-  are_rows = are ∙ ap (λ f. Some (put_reply st s item f).state.rows) (sym refused);
-  given = sym (risen_none count) ∙ ap (λ f. risen count (put_reply st s item f).given) (sym refused);
-}
+  -- a put that was made
+  pub put_made : (begun : Option KeySchema) (rows rows' : Option (List Row)) (before after : ℕ) (text : List ℕ) → begun ≡ Some st.schema → rows ≡ Some s.rows → put_fault st item ≡ None → split_at st item ≡ None
+      → IfSome begun (λ schema. IfSome rows (λ b. rows' ≡ Some (put_row schema item b))) → after ≡ before → text ≡ put_text → Replied st s (r.Put item) text rows' before after
+  put_made begun rows rows' before after text is_begun are fits whole answered given is =
+      let reply = put_by None None fits whole in
+      record {
+        reading = Err c.Memory;
+        is_reading = tt;
+        is_text = is ∙ ap (λ (r : Reply). r.text) (sym reply);
+        are_rows = some_at rows (λ b. rows' ≡ Some (put_row st.schema item b)) s.rows are (some_at begun (λ schema. IfSome rows (λ b. rows' ≡ Some (put_row schema item b))) st.schema is_begun answered) ∙ ap (λ (r : Reply). Some r.state.rows) (sym reply);
+        given = given ∙ sym (risen_none before) ∙ ap (λ (r : Reply). risen before r.given) (sym reply);
+      }
+
+  -- a put that is refused
+  pub put_refused : (rows : Option (List Row)) (count : ℕ) (fault : PutFault) (text : List ℕ) → rows ≡ Some s.rows → put_fault st item ≡ Some fault → text ≡ put_refusal fault → Replied st s (r.Put item) text rows count count
+  put_refused rows count fault text are refused is =
+      let reply = put_by (Some fault) (split_at st item) refused refl in
+      record {
+        reading = Err c.Memory;
+        is_reading = tt;
+        is_text = is ∙ ap (λ (r : Reply). r.text) (sym reply);
+        are_rows = are ∙ ap (λ (r : Reply). Some r.state.rows) (sym reply);
+        given = sym (risen_none count) ∙ ap (λ (r : Reply). risen count r.given) (sym reply);
+      }
+
+  pub put_split : (rows : Option (List Row)) (count : ℕ) (at : List ℕ × List ℕ) (text : List ℕ) → rows ≡ Some s.rows → put_fault st item ≡ None → Some at ≡ split_at st item → text ≡ split_text at → Replied st s (r.Put item) text rows count count
+  put_split rows count at text are fits split is =
+      let reply = put_by None (Some at) fits (sym split) in
+      record {
+        reading = Err c.Memory;
+        is_reading = tt;
+        is_text = is ∙ ap (λ (r : Reply). r.text) (sym reply);
+        are_rows = are ∙ ap (λ (r : Reply). Some r.state.rows) (sym reply);
+        given = sym (risen_none count) ∙ ap (λ (r : Reply). risen count r.given) (sym reply);
+      }
 
 -- a request that does not come to the table
-pub plain_reply : (st : Setting) (s : State) (request : Request) (text : List ℕ) (rows : Option (List Row)) (count : ℕ) → rows ≡ Some s.rows → IsReadingOf request (Err c.Memory) → text ≡ (reply_by st s request (Err c.Memory)).text
-    → (reply_by st s request (Err c.Memory)).state ≡ s → (reply_by st s request (Err c.Memory)).given ≡ 0 → Replied st s request text rows count count
-plain_reply st s request text rows count are reading is state given = record {
-  reading = Err c.Memory;
-  is_reading = reading;
+pub settled : (st : Setting) (s : State) (request : Request) (reading : Result Condition CondFault) (text : List ℕ) (rows : Option (List Row)) (count : ℕ) → rows ≡ Some s.rows → IsReadingOf request reading → text ≡ (reply_by st s request reading).text
+    → (reply_by st s request reading).state ≡ s → (reply_by st s request reading).given ≡ 0 → Replied st s request text rows count count
+settled st s request reading text rows count are is_reading is state given = record {
+  reading = reading;
+  is_reading = is_reading;
   is_text = is;
   are_rows = are ∙ ap (λ (t : State). Some t.rows) (sym state);
   given = sym (risen_none count) ∙ ap (risen count) (sym given);
 }
 
+pub plain_reply : (st : Setting) (s : State) (request : Request) (text : List ℕ) (rows : Option (List Row)) (count : ℕ) → rows ≡ Some s.rows → IsReadingOf request (Err c.Memory) → text ≡ (reply_by st s request (Err c.Memory)).text
+    → (reply_by st s request (Err c.Memory)).state ≡ s → (reply_by st s request (Err c.Memory)).given ≡ 0 → Replied st s request text rows count count
+plain_reply st s request = settled st s request (Err c.Memory)
+
+-- a reply that leaves the rows, where no name is kept
+searchable_state : (s : State) (name : Option (List ℕ)) (reply : Reply) → reply.state ≡ s → (searchable s name reply).state ≡ s
+searchable_state s None reply is = is
+searchable_state s (Some name) reply is = refl
+
+pub asked_state : (s : State) (reply_for : Condition → Reply) (reading : Result Condition CondFault) → ((cond : Condition) → (reply_for cond).state ≡ s) → (asked_reply s reply_for reading).state ≡ s
+asked_state s reply_for (Ok cond) is = searchable_state s (reserved_in cond) (reply_for cond) (is cond)
+asked_state s reply_for (Err fault) is = refl
+
 -- a query whose condition was read
 module _ (st : Setting) (s : State) (q : Query) (cond : Condition) (rows rows' : Option (List Row)) (before after : ℕ) (reads : Reads q.text q.names q.values cond) (are : rows ≡ Some s.rows) (same : rows' ≡ rows) where
-  searched_state : (name : Option (List ℕ)) → (searched s cond name).state ≡ s
-  searched_state None = refl
-  searched_state (Some name) = refl
+  pub answered : (text : List ℕ) → IsReply (searchable s (reserved_in cond) (query_reply st s cond)) text before after → Replied st s (r.Query q) text rows' before after
+  answered text is = record {
+    reading = Ok cond;
+    is_reading = reads;
+    is_text = is.is_text;
+    are_rows = same ∙ are ∙ ap (λ (t : State). Some t.rows) (sym (searchable_state s (reserved_in cond) (query_reply st s cond) refl));
+    given = is.given;
+  }
 
-  pub answered : (text : List ℕ) → text ≡ (searched s cond (reserved_in cond)).text → after ≡ risen before (searched s cond (reserved_in cond)).given → Replied st s (r.Query q) text rows' before after
-  answered text is given = record { reading = Ok cond; is_reading = reads; is_text = is; are_rows = same ∙ are ∙ ap (λ (t : State). Some t.rows) (sym (searched_state (reserved_in cond))); given = given }
-
-  pub not_answered : (after ≡ before) ⊎ (after ≡ risen before (searched s cond (reserved_in cond)).given) → Kept st s (r.Query q) rows' before after
+  pub not_answered : IsGivenBy (searchable s (reserved_in cond) (query_reply st s cond)) before after → Kept st s (r.Query q) rows' before after
   not_answered (inl given) = record { same_rows = same ∙ are; given = inl given }
   not_answered (inr given) = record { same_rows = same ∙ are; given = inr (Ok cond, reads, given) }
 
 -- a query whose condition is refused
 pub cond_refused : (st : Setting) (s : State) (q : Query) (fault : CondFault) (text : List ℕ) (rows : Option (List Row)) (count : ℕ) → fault ≢ c.Memory → Refuses q.text q.names q.values fault → rows ≡ Some s.rows → text ≡ cond_refusal fault → Replied st s (r.Query q) text rows count count
-cond_refused st s q fault text rows count told refuses are is = record { reading = Err fault; is_reading = (told, refuses); is_text = is; are_rows = are; given = sym (risen_none count) }
+cond_refused st s q fault text rows count told refuses are is = settled st s (r.Query q) (Err fault) text rows count are (told, refuses) is refl refl
+
+-- an explain
+explain_given : (st : Setting) (s : State) (cond : Condition) (name : Option (List ℕ)) → (searchable s name (explain_reply st s cond)).given ≡ 0
+explain_given st s cond None = refl
+explain_given st s cond (Some name) = refl
+
+pub explained : (st : Setting) (s : State) (q : Query) (cond : Condition) (text : List ℕ) (rows : Option (List Row)) (count : ℕ) → Reads q.text q.names q.values cond → rows ≡ Some s.rows → text ≡ (searchable s (reserved_in cond) (explain_reply st s cond)).text
+    → Replied st s (r.Explain q) text rows count count
+explained st s q cond text rows count reads are is = settled st s (r.Explain q) (Ok cond) text rows count are reads is (searchable_state s (reserved_in cond) (explain_reply st s cond) refl) (explain_given st s cond (reserved_in cond))
+
+pub explain_refused : (st : Setting) (s : State) (q : Query) (fault : CondFault) (text : List ℕ) (rows : Option (List Row)) (count : ℕ) → fault ≢ c.Memory → Refuses q.text q.names q.values fault → rows ≡ Some s.rows → text ≡ cond_refusal fault
+    → Replied st s (r.Explain q) text rows count count
+explain_refused st s q fault text rows count told refuses are is = settled st s (r.Explain q) (Err fault) text rows count are (told, refuses) is refl refl
 
 -- ---- lines
 
@@ -164,6 +213,10 @@ pub then_ok : {A E : Type 0} (answer : Result A E) (P Q : A → Type 0) → ((a 
 then_ok (Ok a) P Q f p = f a p
 then_ok (Err e) P Q f p = tt
 
+pub both_ok : {A E : Type 0} (answer : Result A E) (P Q R : A → Type 0) → ((a : A) → P a → Q a → R a) → IfOk answer P → IfOk answer Q → IfOk answer R
+both_ok (Ok a) P Q R f p q = f a p q
+both_ok (Err e) P Q R f p q = tt
+
 pub then_err : {A E : Type 0} (answer : Result A E) (P Q : Type 0) → (P → Q) → OnErr answer P → OnErr answer Q
 then_err (Ok a) P Q f p = tt
 then_err (Err e) P Q f p = f p
@@ -190,6 +243,10 @@ is_nothing (b ∷ bytes) is = absurd (true≢false (is ∙ sym (not_zero (length
 
 pub is_something : (line : List ℕ) → false ≡ (length line == 0) → line ≢ []
 is_something line is empty = true≢false (sym (is ∙ ap (λ l. length l == 0) empty))
+
+pub split_not_ok : (at : List ℕ × List ℕ) → bytes_eq (split_text at) put_text ≡ false
+unfolding serde_json_on_literals
+split_not_ok at = refl
 
 -- a refusal of a put is not its ok
 pub not_ok : (fault : PutFault) → bytes_eq (put_refusal fault) put_text ≡ false

@@ -1,5 +1,5 @@
 -- What a query asks, as JSON spells it (this project's own).
-use Rattle.std.specs.Prelude.{ℕ, ◌+◌, ◌==◌, ◌&&◌, Bool, true, false, List, [], ◌∷◌, length, codes, Option, Some, None, is_some, Result, Ok, Err, if◌then◌else◌}
+use Rattle.std.specs.Prelude.{ℕ, ◌+◌, ◌==◌, ◌&&◌, Bool, true, false, List, [], ◌∷◌, codes, Option, Some, None, is_some, Result, Ok, Err, if◌then◌else◌}
 use Rattle.serde_json.specs.Data.{Data, Members, no_members, member}
 use Rattle.serde_json.specs.Find.{get, as_str, as_object}
 use Rattle.dbe_tokens.specs.Token.{are_parts}
@@ -11,6 +11,7 @@ use Rattle.dbe_values.specs.declared.fault.ValueFault.TheVariants as fault
 use Rattle.dbe_values.specs.Json.{size_of}
 use Rattle.dbe_values.specs.Attributes.{is_name}
 use Rattle.dbe_values.specs.Reading.{value_in}
+use Rattle.dbe_session.specs.declared.request.Query.{Query}
 
 -- a sign, and at least one letter, digit or `_`
 abbrev pub is_placeholder : ℕ → List ℕ → Bool
@@ -95,19 +96,13 @@ abbrev pub values_in : Members → Result (List (List ℕ × AttrValue)) Faulty
 values_in no_members = Ok []
 values_in (member name d ms) = then_entry name (attr_in d) (values_in ms)
 
--- what a query asks
-pub record Asked : Type 0 where
-  pub text : List ℕ
-  pub names : List (List ℕ × List ℕ)
-  pub values : List (List ℕ × AttrValue)
-
-abbrev pub asked_with : List ℕ → Result (List (List ℕ × List ℕ)) Faulty → Result (List (List ℕ × AttrValue)) Faulty → Result Asked Faulty
+abbrev pub asked_with : List ℕ → Result (List (List ℕ × List ℕ)) Faulty → Result (List (List ℕ × AttrValue)) Faulty → Result Query Faulty
 asked_with text (Err f) values = Err f
 asked_with text (Ok names) (Err f) = Err f
 asked_with text (Ok names) (Ok values) = Ok (record { text = text; names = names; values = values })
 
 -- What is asked, or the first placeholder at which there is a fault: those of `names` come before those of `values`, each in order of their bytes.
-abbrev pub asked_in : Data → Result Asked Faulty
+abbrev pub asked_in : Data → Result Query Faulty
 asked_in d =
     asked_with (or_empty (text_in (get (codes "condition") d)))
     (names_in (or_none (members_in (get (codes "names") d))))

@@ -1,20 +1,24 @@
 -- The reply to a line, and the rows after it.
-use Rattle.std.specs.Prelude.{◌≡◌, ◌≢◌, ℕ, ◌+◌, List, [], ◌∷◌, ◌++◌, Option, Some, None, Result, Ok, Err, length, map, filter, codes, ⊤}
-use Rattle.std.specs.List.{flat_map}
+use Rattle.std.specs.Prelude.{◌≢◌, ℕ, ◌+◌, Bool, if◌then◌else◌, List, [], ◌∷◌, ◌++◌, Option, Some, None, Result, Ok, Err, length, map, filter, codes, ⊤}
+use Rattle.std.specs.List.{list_any}
 use Rattle.dbe_values.specs.declared.key.KeyValue.{KeyValue}
 use Rattle.dbe_values.specs.KeyValues.{key_view}
 use Rattle.dbe_config.specs.Setting.{Setting}
 use Rattle.dbe_item.specs.Acceptance.{put_fault}
 use Rattle.dbe_item.specs.declared.fault.PutFault.{PutFault}
+use Rattle.dbe_fields.specs.Plain.{is_computed}
+use Rattle.dbe_fields.specs.Extended.{extended}
+use Rattle.dbe_fields.specs.Split.{split_at}
 use Rattle.dbe_cond.specs.Condition.{Condition}
 use Rattle.dbe_cond.specs.Meaning.{holds}
 use Rattle.dbe_cond.specs.Names.{names_of, first_with}
 use Rattle.dbe_cond.specs.Reading.{Reads, Refuses}
+use Rattle.dbe_cond.specs.Printed.{printed_text, printed_names, printed_values}
 use Rattle.dbe_cond.specs.declared.fault.CondFault.{CondFault}
 use Rattle.dbe_cond.specs.declared.fault.CondFault.TheVariants as c
 use Rattle.dbe_table.specs.Rows.{Row, put_row, row_at, found_count}
 use Rattle.dbe_session.specs.Requests.{request_of}
-use Rattle.dbe_session.specs.Texts.{put_text, none_text, item_text, checked_text, select_text, refused_text, refused_name, refused_name_for, value_word, put_refusal, cond_refusal}
+use Rattle.dbe_session.specs.Texts.{put_text, none_text, item_text, checked_text, select_text, split_text, every_text, condition_text, refused_text, refused_name, refused_name_for, value_word, put_refusal, cond_refusal}
 use Rattle.dbe_session.specs.declared.request.Query.{Query}
 use Rattle.dbe_session.specs.declared.request.Request.{Request}
 use Rattle.dbe_session.specs.declared.request.Request.TheVariants as r
@@ -23,7 +27,7 @@ use Rattle.dbe_session.specs.declared.request.Request.TheVariants as r
 pub record State : Type 0 where
   pub rows : List Row
 
--- A line of the script, and the condition that its query reads as, or why it reads as none.
+-- A line of the script, and the condition that its query reads as, or why it reads as none. What is explained is a query too.
 pub record Turn : Type 0 where
   pub line : List ℕ
   pub reading : Result Condition CondFault
@@ -41,6 +45,7 @@ IsReading q (Err fault) = (fault ≢ c.Memory) × Refuses q.text q.names q.value
 
 abbrev pub IsReadingOf : Request → Result Condition CondFault → Type 0
 IsReadingOf (r.Query q) reading = IsReading q reading
+IsReadingOf (r.Explain q) reading = IsReading q reading
 IsReadingOf r.NotJson reading = ⊤
 IsReadingOf r.Shape reading = ⊤
 IsReadingOf (r.Value name why) reading = ⊤
@@ -59,9 +64,10 @@ abbrev pub answer : State → List ℕ → ℕ → Reply
 answer s text given = record { text = text; state = s; given = given }
 
 -- an item is put, or refused
-abbrev pub put_reply : Setting → State → Row → Option PutFault → Reply
-put_reply st s item None = record { text = put_text; state = record { rows = put_row st.schema item s.rows }; given = 0 }
-put_reply st s item (Some fault) = answer s (put_refusal fault) 0
+abbrev pub put_reply : Setting → State → Row → Option PutFault → Option (List ℕ × List ℕ) → Reply
+put_reply st s item (Some fault) split = answer s (put_refusal fault) 0
+put_reply st s item None (Some at) = answer s (split_text at) 0
+put_reply st s item None None = record { text = put_text; state = record { rows = put_row st.schema item s.rows }; given = 0 }
 
 abbrev pub found_text : Option Row → List ℕ
 found_text None = none_text
@@ -74,26 +80,45 @@ checked (Some row) = checked_text
 abbrev pub row_of : Setting → State → KeyValue → Option Row
 row_of st s key = row_at st.schema (key_view key) s.rows
 
--- the rows of which a condition holds
-abbrev pub selected : Condition → List Row → List Row
-selected cond rows = filter (holds cond) rows
+-- whether a virtual field or a compound stands in a condition
+abbrev pub has_computed : Setting → Condition → Bool
+has_computed st cond = list_any (is_computed st) (names_of cond)
 
--- of the rows that the table handed out, those of which the condition holds
-abbrev pub selected_text : Condition → List Row → List ℕ
-selected_text cond found = select_text (selected cond found) (length found)
+-- whether a condition holds of an item with its virtual fields and compounds
+abbrev pub selects : Setting → Condition → Row → Bool
+selects st cond item = holds cond (extended st item)
 
--- names that dbe keeps for itself are not searched
-abbrev pub searched : State → Condition → Option (List ℕ) → Reply
-searched s cond (Some name) = answer s (refused_name_for (codes "rewriting") (codes "NotSearchable") name) 0
-searched s cond None = answer s (selected_text cond (selected cond s.rows)) (length (selected cond s.rows))
+-- the rows that the table is asked for: every row where a virtual field or a compound stands in the condition, else those of which it holds
+abbrev pub handed_out : Setting → Condition → List Row → List Row
+handed_out st cond rows = if has_computed st cond then rows else filter (holds cond) rows
+
+-- of the rows that the table handed out, those that the condition selects
+abbrev pub selected_text : Setting → Condition → List Row → List ℕ
+selected_text st cond found = select_text (filter (selects st cond) found) (length found)
+
+abbrev pub query_reply : Setting → State → Condition → Reply
+query_reply st s cond = answer s (selected_text st cond (handed_out st cond s.rows)) (length (handed_out st cond s.rows))
+
+-- what the table would be asked for: every row, or those of which the condition holds
+abbrev pub explained_text : Setting → Condition → List ℕ
+explained_text st cond = if has_computed st cond then every_text else condition_text (printed_text cond) (printed_names cond) (printed_values cond)
+
+abbrev pub explain_reply : Setting → State → Condition → Reply
+explain_reply st s cond = answer s (explained_text st cond) 0
 
 -- the first name of a condition that dbe keeps for itself
 abbrev pub reserved_in : Condition → Option (List ℕ)
 reserved_in cond = first_with (codes "aws_dbe_") (names_of cond)
 
-abbrev pub query_reply : State → Result Condition CondFault → Reply
-query_reply s (Err fault) = answer s (cond_refusal fault) 0
-query_reply s (Ok cond) = searched s cond (reserved_in cond)
+-- names that dbe keeps for itself are not searched
+abbrev pub searchable : State → Option (List ℕ) → Reply → Reply
+searchable s (Some name) reply = answer s (refused_name_for (codes "rewriting") (codes "NotSearchable") name) 0
+searchable s None reply = reply
+
+-- the reply to a condition that was read, or why there is none
+abbrev pub asked_reply : State → (Condition → Reply) → Result Condition CondFault → Reply
+asked_reply s reply_for (Err fault) = answer s (cond_refusal fault) 0
+asked_reply s reply_for (Ok cond) = searchable s (reserved_in cond) (reply_for cond)
 
 -- the reply to a request, whose query reads so
 abbrev pub reply_by : Setting → State → Request → Result Condition CondFault → Reply
@@ -102,10 +127,11 @@ reply_by st s r.Shape reading = answer s (refused_text (codes "shape")) 0
 reply_by st s r.NotBuilt reading = answer s (refused_text (codes "not built")) 0
 reply_by st s (r.Value name why) reading = answer s (refused_name_for (codes "value") (value_word why) name) 0
 reply_by st s (r.Key name) reading = answer s (refused_name (codes "key") name) 0
-reply_by st s (r.Put item) reading = put_reply st s item (put_fault st item)
+reply_by st s (r.Put item) reading = put_reply st s item (put_fault st item) (split_at st item)
 reply_by st s (r.Get key) reading = answer s (found_text (row_of st s key)) (found_count (row_of st s key))
 reply_by st s (r.Check key) reading = answer s (checked (row_of st s key)) (found_count (row_of st s key))
-reply_by st s (r.Query q) reading = query_reply s reading
+reply_by st s (r.Query q) reading = asked_reply s (query_reply st s) reading
+reply_by st s (r.Explain q) reading = asked_reply s (explain_reply st s) reading
 
 -- an empty line has no reply
 abbrev pub reply_in : Setting → State → List ℕ → Result Condition CondFault → Reply

@@ -4,7 +4,6 @@ use Rattle.serde_json.specs.Data.{Data}
 use Rattle.serde_json.specs.Find.{get, as_str}
 use Rattle.dbe_values.specs.Val.{Val, Entries}
 use Rattle.dbe_values.specs.View.{attr_of, attributes_of}
-use Rattle.dbe_values.specs.declared.value.AttrValue.{AttrValue}
 use Rattle.dbe_values.specs.declared.fault.ItemFault.{ItemFault}
 use Rattle.dbe_values.specs.declared.fault.ItemFault.TheVariants.{NotObject, At}
 use Rattle.dbe_values.specs.declared.key.KeyName.{KeyName}
@@ -14,7 +13,7 @@ use Rattle.dbe_values.specs.BranchIds.{is_branch_id}
 use Rattle.dbe_values.specs.Items.{item_in}
 use Rattle.dbe_values.specs.Json.{json_of, size_of}
 use Rattle.dbe_values.specs.Keys.{row_key}
-use Rattle.dbe_session.specs.Queries.{Asked, Faulty, has_form, asked_in}
+use Rattle.dbe_session.specs.Queries.{Faulty, has_form, asked_in}
 use Rattle.dbe_session.specs.declared.request.Query.{Query}
 use Rattle.dbe_session.specs.declared.request.Request.{Request}
 use Rattle.dbe_session.specs.declared.request.Request.TheVariants as r
@@ -53,20 +52,13 @@ is_key_object schema d = has_member schema.partition.name d && has_sort schema.s
 abbrev pub key_in : KeySchema → (KeyValue → Request) → Data → Request
 key_in schema make d = if is_key_object schema d then keyed_by schema make (item_in d) else r.Shape
 
-abbrev pub query_of : Asked → Query
-query_of a = record { text = a.text; names = a.names; values = a.values }
-
-abbrev pub asked_by : (Query → Request) → Result Asked Faulty → Request
-asked_by make (Ok a) = make (query_of a)
+abbrev pub asked_by : (Query → Request) → Result Query Faulty → Request
+asked_by make (Ok q) = make q
 asked_by make (Err f) = r.Value f.0 f.1
 
--- a query
-abbrev pub query_in : Data → Request
-query_in d = if has_form d then asked_by r.Query (asked_in d) else r.Shape
-
--- what explains a query
-abbrev pub explain_in : Data → Request
-explain_in d = if has_form d then r.NotBuilt else r.Shape
+-- a query, or what explains one
+abbrev pub query_in : (Query → Request) → Data → Request
+query_in make d = if has_form d then asked_by make (asked_in d) else r.Shape
 
 abbrev pub is_id : Option (List ℕ) → Bool
 is_id None = false
@@ -88,9 +80,9 @@ request_in schema (Some d) =
     if size_of d == 1
     then or_other (get (codes "put") d) (λ item. put_in (item_in item))
     (or_other (get (codes "get") d) (key_in schema r.Get)
-    (or_other (get (codes "query") d) query_in
+    (or_other (get (codes "query") d) (query_in r.Query)
     (or_other (get (codes "check") d) (key_in schema r.Check)
-    (or_other (get (codes "explain") d) explain_in
+    (or_other (get (codes "explain") d) (query_in r.Explain)
     (or_other (get (codes "create") d) id_in
     (or_other (get (codes "rotate") d) id_in
     r.Shape))))))

@@ -2,11 +2,12 @@
 use Rattle.std.specs.Prelude.{◌≡◌, ◌⊎◌, ℕ, true, List, Some, Result, ⊤}
 use Rattle.std.specs.declared.option.Option.{Option}
 use Rattle.dbe_config.specs.Setting.{Setting}
-use Rattle.dbe_cond.specs.Condition.{Condition}
+use Rattle.dbe_cond.specs.Condition.{Condition, condition_of, and, none}
+use Rattle.dbe_cond.specs.declared.wanted.Wanted.{Wanted}
+use Rattle.dbe_cond.specs.declared.wanted.Wanted.TheVariants as w
 use Rattle.dbe_cond.specs.declared.fault.CondFault.{CondFault}
 use Rattle.dbe_table.specs.Rows.{Row, risen}
-use Rattle.dbe_session.specs.Requests.{request_of}
-use Rattle.dbe_session.specs.Reply.{State, Turn, IsTurn, IsReadingOf, reply_by, reply_to}
+use Rattle.dbe_session.specs.Reply.{State, Turn, Reply, IsTurn, IsReadingOf, reply_by, reply_to}
 use Rattle.dbe_session.specs.declared.request.Request.{Request}
 use Rattle.dbe_session.specs.declared.request.Request.TheVariants as r
 use Rattle.dbe_values.specs.Keys.{is_lawful_key}
@@ -19,6 +20,25 @@ pub record Replied (st : Setting) (s : State) (request : Request) (text : List �
   pub is_text : text ≡ (reply_by st s request reading).text
   pub are_rows : rows ≡ Some (reply_by st s request reading).state.rows
   pub given : after ≡ risen before (reply_by st s request reading).given
+
+-- what was written is this reply, and so many rows as it has were handed out more
+pub record IsReply (reply : Reply) (text : List ℕ) (before after : ℕ) : Type 0 where
+  pub is_text : text ≡ reply.text
+  pub given : after ≡ risen before reply.given
+
+-- no rows were handed out more, or as many as a reply has
+abbrev pub IsGivenBy : Reply → ℕ → ℕ → Type 0
+IsGivenBy reply before after = (after ≡ before) ⊎ (after ≡ risen before reply.given)
+
+-- rows are wanted for a condition
+abbrev pub IsOnly : Wanted → Type 0
+IsOnly (w.Only cond) = ⊤
+IsOnly w.Every = ⊥
+
+-- the condition of wanted rows; an empty AND holds of every row
+abbrev pub only_of : Wanted → Condition
+only_of (w.Only cond) = condition_of cond
+only_of w.Every = and none
 
 -- a line got its reply
 pub record Answered (st : Setting) (s : State) (line text : List ℕ) (rows : Option (List Row)) (before after : ℕ) : Type 0 where
@@ -50,3 +70,4 @@ HasLawfulKey st (r.Key name) = ⊤
 HasLawfulKey st r.NotBuilt = ⊤
 HasLawfulKey st (r.Put item) = ⊤
 HasLawfulKey st (r.Query q) = ⊤
+HasLawfulKey st (r.Explain q) = ⊤

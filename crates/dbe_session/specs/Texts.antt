@@ -1,7 +1,7 @@
 -- What is written for a request. Each text is compact JSON with a newline behind it (this project's own).
-use Rattle.std.specs.Prelude.{ℕ, Bool, true, List, [], ◌∷◌, ◌++◌, codes, length}
+use Rattle.std.specs.Prelude.{ℕ, true, List, [], ◌∷◌, ◌++◌, codes, length}
 use Rattle.std.specs.List.{flat_map}
-use Rattle.serde_json.specs.Data.{Data, null, boolean, number, unsigned, string, object, Members, no_members, member}
+use Rattle.serde_json.specs.Data.{Data, null, boolean, number, unsigned, string, object, Members, no_members, member, put}
 use Rattle.serde_json.specs.Written.{compact_text}
 use Rattle.dbe_values.specs.declared.value.AttrValue.{AttrValue}
 use Rattle.dbe_values.specs.declared.fault.ValueFault.{ValueFault}
@@ -63,6 +63,30 @@ refused_name_for refused why name = line_of (object (member (codes "name") (stri
 -- {"at":at,"refused":refused,"why":why}
 abbrev pub refused_at : List ℕ → List ℕ → ℕ → List ℕ
 refused_at refused why at = line_of (object (member (codes "at") (number (unsigned at)) (reason refused why)))
+
+-- {"beacon":name,"part":part,"refused":"split"}
+abbrev pub split_text : List ℕ × List ℕ → List ℕ
+split_text at = line_of (object (member (codes "beacon") (string at.0) (member (codes "part") (string at.1) (member (codes "refused") (string (codes "split")) no_members))))
+
+-- {"every":true}
+abbrev pub every_text : List ℕ
+every_text = line_of (object (member (codes "every") (boolean true) no_members))
+
+-- members with those of names put among them
+abbrev pub with_names : Members → List (List ℕ × List ℕ) → Members
+with_names ms [] = ms
+with_names ms (e ∷ es) = with_names (put e.0 (string e.1) ms) es
+
+-- an object of names, each under its placeholder
+abbrev pub names_data : List (List ℕ × List ℕ) → Data
+names_data names = object (with_names no_members names)
+
+-- {"condition":text,"names":names,"values":values}; values stand under their placeholders as those of an item under its names
+abbrev pub condition_data : List ℕ → List (List ℕ × List ℕ) → List (List ℕ × AttrValue) → Data
+condition_data text names values = object (member (codes "condition") (string text) (member (codes "names") (names_data names) (member (codes "values") (item_data values) no_members)))
+
+abbrev pub condition_text : List ℕ → List (List ℕ × List ℕ) → List (List ℕ × AttrValue) → List ℕ
+condition_text text names values = line_of (condition_data text names values)
 
 -- the words for faults of values
 abbrev pub value_word : ValueFault → List ℕ

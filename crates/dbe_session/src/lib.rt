@@ -1,9 +1,11 @@
 //! The session: a line of the script to its reply.
 #![tactic(auto)]
 
+mod explaining;
 mod queries;
 mod request;
 mod requests;
+mod searching;
 mod session;
 mod texts;
 

@@ -4,12 +4,10 @@ ghost use Rattle.serde_json.specs.Find.{get, as_str};
 ghost use Rattle.dbe_values.specs.Attributes.{is_name};
 ghost use Rattle.std.specs.List.{list_all};
 ghost use Rattle.dbe_tokens.specs.Token.{are_parts, is_part};
-ghost use Rattle.dbe_session.specs.Requests.{asked_by};
 ghost use Rattle.dbe_session.specs.Queries.{has_form, members_in, names_have_form, values_have_form, one_where, text_in, are_placeholders, are_texts, is_placeholder, asked_in, names_in, values_in, or_none, or_empty};
-ghost use Rattle.dbe_session.specs.QueriesRead.{GivesAsked, IsFaulty, fault_at};
-ghost use Rattle.dbe_session.specs.declared.request.Request.TheVariants as r;
+ghost use Rattle.dbe_session.specs.QueriesRead.{GivesAsked, fault_at};
 
-use crate::{Query, Request};
+use crate::Query;
 use dbe_cond::{Names, Values};
 use dbe_num::{Memory, Text};
 use dbe_values::{ValueFault, from_json, size_of};
@@ -135,32 +133,17 @@ impl From<Memory> for AskFault {
 }
 
 /// The query that a value of the form is, or the first fault in it.
-pub(crate) fn asked_in(alloc: Global, value: &Value) -> Result<Request, Memory>
-    ensures { IfOk result (λ request. request ≡ asked_by r.Query (asked_in (view value.now))) }
+pub(crate) fn asked_in(alloc: Global, value: &Value) -> Result<Query, AskFault>
+    ensures { GivesAsked result (asked_in (view value.now)) }
 {
-    let names = match names_in(alloc, value.get("names")) {
-        Ok(names) => names,
-        Err(fault) => return faulty(fault),
-    };
-    let values = match values_in(alloc, value.get("values")) {
-        Ok(values) => values,
-        Err(fault) => return faulty(fault),
-    };
+    let names = names_in(alloc, value.get("names"))?;
+    let values = values_in(alloc, value.get("values"))?;
     let text = condition_in(alloc, value)?;
-    Ok(Request::Query(Query {
+    Ok(Query {
         text,
         names,
         values,
-    }))
-}
-
-fn faulty(fault: AskFault) -> Result<Request, Memory>
-    ensures { IfOk result (λ request. IsFaulty fault request) }
-{
-    match fault {
-        AskFault::At { name, why } => Ok(Request::Value { name, why }),
-        AskFault::Memory => Err(Memory),
-    }
+    })
 }
 
 fn condition_in(alloc: Global, value: &Value) -> Result<Text, Memory>

@@ -31,4 +31,6 @@ pub enum Request {
     Check(KeyValue),
     /// Prints the items of which a condition is true.
     Query(Query),
+    /// Prints what a query would ask of the table.
+    Explain(Query),
 }

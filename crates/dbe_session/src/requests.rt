@@ -5,11 +5,12 @@ ghost use Rattle.dbe_values.specs.declared.key.KeyValue.{KeyValue as the_key};
 ghost use Rattle.dbe_values.specs.declared.fault.ItemFault.TheVariants.{At};
 ghost use Rattle.dbe_session.specs.declared.request.Request.{Request as the_request};
 ghost use Rattle.dbe_session.specs.declared.request.Request.TheVariants as r;
-ghost use Rattle.dbe_session.specs.Requests.{request_of, request_in, put_in, key_in, is_key_object, has_sort, has_member, query_in, explain_in, id_in};
+ghost use Rattle.dbe_session.specs.Requests.{request_of, request_in, put_in, key_in, is_key_object, has_sort, has_member, query_in, id_in};
 ghost use Rattle.dbe_session.specs.KeysRead.{made, fault_request, IsFaultOf};
+ghost use Rattle.dbe_session.specs.QueriesRead.{IsFaulty};
 
 use crate::Request;
-use crate::queries::{asked_in, has_form};
+use crate::queries::{AskFault, asked_in, has_form};
 use dbe_num::Memory;
 use dbe_values::{
     BranchId, ItemFault, KeyError, KeyName, KeySchema, KeyValue, ValueFault, item_from_json,
@@ -47,7 +48,7 @@ fn request_in(alloc: Global, schema: &KeySchema, value: &Value) -> Result<Reques
         return check_in(alloc, schema, key);
     }
     if let Some(query) = value.get("explain") {
-        return Ok(explain_in(query));
+        return explain_in(alloc, query);
     }
     if let Some(id) = value.get("create") {
         return Ok(id_in(id));
@@ -147,22 +148,35 @@ fn has_member(name: &str, value: &Value) -> bool
 }
 
 fn query_in(alloc: Global, value: &Value) -> Result<Request, Memory>
-    ensures { IfOk result (λ r. r ≡ query_in (view value.now)) }
+    ensures { IfOk result (λ request. request ≡ query_in r.Query (view value.now)) }
 {
-    if has_form(value) {
-        asked_in(alloc, value)
-    } else {
-        Ok(Request::Shape)
+    if !has_form(value) {
+        return Ok(Request::Shape);
+    }
+    match asked_in(alloc, value) {
+        Ok(query) => Ok(Request::Query(query)),
+        Err(fault) => faulty(fault),
     }
 }
 
-fn explain_in(value: &Value) -> Request
-    ensures { result ≡ explain_in (view value.now) }
+fn explain_in(alloc: Global, value: &Value) -> Result<Request, Memory>
+    ensures { IfOk result (λ request. request ≡ query_in r.Explain (view value.now)) }
 {
-    if has_form(value) {
-        Request::NotBuilt
-    } else {
-        Request::Shape
+    if !has_form(value) {
+        return Ok(Request::Shape);
+    }
+    match asked_in(alloc, value) {
+        Ok(query) => Ok(Request::Explain(query)),
+        Err(fault) => faulty(fault),
+    }
+}
+
+fn faulty(fault: AskFault) -> Result<Request, Memory>
+    ensures { IfOk result (λ request. IsFaulty fault request) }
+{
+    match fault {
+        AskFault::At { name, why } => Ok(Request::Value { name, why }),
+        AskFault::Memory => Err(Memory),
     }
 }
 

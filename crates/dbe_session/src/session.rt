@@ -1,20 +1,20 @@
-ghost use Rattle.std.specs.Prelude.{◌≡◌, ◌⊎◌, ◌≤◌, true, Some, Err, IfOk, OnErr, IsSome};
+ghost use Rattle.std.specs.Prelude.{◌≡◌, ◌⊎◌, ◌≤◌, true, Some, Err, IfOk, OnErr};
 ghost use Rattle.dbe_io.specs.Causes.{Rose};
 ghost use Rattle.dbe_values.specs.Keys.{is_lawful_key};
 ghost use Rattle.dbe_values.specs.KeyValues.{key_view};
-ghost use Rattle.dbe_cond.specs.Condition.{condition_of};
-ghost use Rattle.dbe_table.specs.Rows.{risen};
 ghost use Rattle.dbe_session.specs.declared.request.Request.TheVariants as r;
-ghost use Rattle.dbe_session.specs.Reply.{State, searched, reserved_in};
+ghost use Rattle.dbe_session.specs.Reply.{State};
 ghost use Rattle.dbe_session.specs.Steps.{Answered, Undone, Replied, Kept, HasLawfulKey};
 
+use crate::explaining::explain;
+use crate::searching::query_table;
 use crate::texts::{
-    checked_text, cond_refusal, item_text, none_text, put_refusal, put_text, refused_name,
-    refused_name_for, refused_text, selected_text, value_refusal,
+    checked_text, item_text, none_text, put_refusal, put_text, refused_name, refused_text,
+    split_text, value_refusal,
 };
-use crate::{Query, Request, read_request};
-use dbe_cond::{Cond, Wanted, first_name_with, read};
+use crate::{Request, read_request};
 use dbe_config::Config;
+use dbe_fields::split_fault;
 use dbe_item::accepts;
 use dbe_num::Memory;
 use dbe_table::{Table, TableFault};
@@ -112,7 +112,8 @@ fn reply_to<T: Table>(
         Request::Put(item) => put(alloc, config, table, item),
         Request::Get(key) => get(alloc, config, table, &key),
         Request::Check(key) => check(alloc, config, table, &key),
-        Request::Query(query) => answer(alloc, config, table, &query),
+        Request::Query(query) => query_table(alloc, config, table, &query),
+        Request::Explain(query) => Ok(explain(alloc, config, &query)?),
     }
 }
 
@@ -134,6 +135,9 @@ fn put<T: Table>(
     match accepts(alloc, config, &item) {
         Ok(()) => {}
         Err(fault) => return Ok(put_refusal(alloc, &fault)?),
+    }
+    if let Some(at) = split_fault(alloc, config, &item)? {
+        return Ok(split_text(alloc, &at)?);
     }
     let text = put_text(alloc)?;
     match table.put(item) {
@@ -182,49 +186,6 @@ fn check<T: Table>(
     match table.get(key) {
         Ok(Some(_)) => Ok(checked_text(alloc)?),
         Ok(None) => Ok(none_text(alloc)?),
-        Err(TableFault::Failed) => Err(StepFault::Table),
-        Err(TableFault::Memory) => Err(StepFault::Memory),
-    }
-}
-
-fn answer<T: Table>(
-    alloc: Global,
-    config: &Config,
-    table: &mut T,
-    query: &Query,
-) -> Result<Vec<u8>, StepFault>
-    requires { T.begun table.old ≡ Some config.now.schema }
-    ensures ok { IfOk result (λ text. (s : State) → T.rows table.old ≡ Some s.rows → Replied config.now s (r.Query query.now) text.items (T.rows table.new) (T.given table.old) (T.given table.new)) }
-    ensures err { OnErr result ((s : State) → T.rows table.old ≡ Some s.rows → Kept config.now s (r.Query query.now) (T.rows table.new) (T.given table.old) (T.given table.new)) }
-    ensures begun { T.begun table.new ≡ T.begun table.old }
-    ensures later { T.faults table.old ≤ T.faults table.new }
-    ensures failed { result ≡ Err StepFault.Table → Rose (T.faults table.old) (T.faults table.new) }
-{
-    match read(alloc, query.text.as_str(), &query.names, &query.values) {
-        Ok(cond) => search(alloc, table, cond),
-        Err(fault) => Ok(cond_refusal(alloc, &fault)?),
-    }
-}
-
-fn search<T: Table>(alloc: Global, table: &mut T, cond: Cond) -> Result<Vec<u8>, StepFault>
-    requires { IsSome (T.begun table.old) }
-    ensures ok { IfOk result (λ text. (s : State) → T.rows table.old ≡ Some s.rows → (text.items ≡ (searched s (condition_of cond) (reserved_in (condition_of cond))).text) × (T.given table.new ≡ risen (T.given table.old) (searched s (condition_of cond) (reserved_in (condition_of cond))).given)) }
-    ensures err { OnErr result ((s : State) → T.rows table.old ≡ Some s.rows → (T.given table.new ≡ T.given table.old) ⊎ (T.given table.new ≡ risen (T.given table.old) (searched s (condition_of cond) (reserved_in (condition_of cond))).given)) }
-    ensures same { T.rows table.new ≡ T.rows table.old }
-    ensures begun { T.begun table.new ≡ T.begun table.old }
-    ensures later { T.faults table.old ≤ T.faults table.new }
-    ensures failed { result ≡ Err StepFault.Table → Rose (T.faults table.old) (T.faults table.new) }
-{
-    if let Some(name) = first_name_with(&cond, "aws_dbe_") {
-        return Ok(refused_name_for(alloc, "rewriting", "NotSearchable", name.as_str())?);
-    }
-    let wanted = Wanted::Only(cond);
-    let found = table.select(&wanted);
-    let Wanted::Only(cond) = &wanted else {
-        unreachable!()
-    };
-    match found {
-        Ok(found) => Ok(selected_text(alloc, cond, &found)?),
         Err(TableFault::Failed) => Err(StepFault::Table),
         Err(TableFault::Memory) => Err(StepFault::Memory),
     }

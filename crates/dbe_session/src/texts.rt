@@ -1,13 +1,12 @@
-ghost use Rattle.std.specs.Prelude.{◌≡◌, ◌≢◌, ◌++◌, true, false, codes, filter, length, IfOk};
+ghost use Rattle.std.specs.Prelude.{◌≡◌, ◌≢◌, ◌++◌, true, false, codes, IfOk};
 ghost use Rattle.serde_json.specs.Data.{object, member, no_members, number, unsigned, string, boolean, null};
 ghost use Rattle.serde_json.specs.View.{view};
 ghost use Rattle.serde_json.specs.Written.{has_float};
 ghost use Rattle.dbe_values.specs.Writing.{item_data};
-ghost use Rattle.dbe_cond.specs.Condition.{condition_of};
-ghost use Rattle.dbe_session.specs.Reply.{selected_text};
-ghost use Rattle.dbe_session.specs.Texts.{line_of, put_text, none_text, item_text, checked_text, count_text, refused_text, refused_name, refused_for, refused_name_for, refused_at, reason, value_word, put_refusal, cond_refusal};
+ghost use Rattle.dbe_session.specs.Texts.{line_of, put_text, none_text, item_text, checked_text, count_text, split_text, every_text, refused_text, refused_name, refused_for, refused_name_for, refused_at, reason, value_word, put_refusal, cond_refusal};
 
-use dbe_cond::{Cond, CondFault, holds};
+use dbe_cond::CondFault;
+use dbe_fields::SplitAt;
 use dbe_item::PutFault;
 use dbe_num::Memory;
 use dbe_values::{Item, ValueFault, item_to_json};
@@ -35,6 +34,23 @@ pub(crate) fn checked_text(alloc: Global) -> Result<Vec<u8>, Memory>
     line_of(alloc, &checked_value(alloc)?)
 }
 
+/// The reply to an explain of a condition in which a virtual field or a compound stands.
+pub(crate) fn every_text(alloc: Global) -> Result<Vec<u8>, Memory>
+    ensures { IfOk result (λ text. text.items ≡ every_text) }
+{
+    line_of(alloc, &every_value(alloc)?)
+}
+
+/// The refusal for a part of a compound that has the split character.
+pub(crate) fn split_text(alloc: Global, at: &SplitAt) -> Result<Vec<u8>, Memory>
+    ensures { IfOk result (λ text. text.items ≡ split_text (at.now.beacon, at.now.part)) }
+{
+    line_of(
+        alloc,
+        &split_value(alloc, at.beacon.as_str(), at.part.as_str())?,
+    )
+}
+
 /// The reply to a request that is refused.
 pub(crate) fn refused_text(alloc: Global, why: &str) -> Result<Vec<u8>, Memory>
     ensures { IfOk result (λ text. text.items ≡ refused_text why.now) }
@@ -49,13 +65,7 @@ pub(crate) fn refused_name(alloc: Global, why: &str, name: &str) -> Result<Vec<u
     line_of(alloc, &name_value(alloc, why, name)?)
 }
 
-/// The refusal for a name, with its reason.
-pub(crate) fn refused_name_for(
-    alloc: Global,
-    refused: &str,
-    why: &str,
-    name: &str,
-) -> Result<Vec<u8>, Memory>
+fn refused_name_for(alloc: Global, refused: &str, why: &str, name: &str) -> Result<Vec<u8>, Memory>
     ensures { IfOk result (λ text. text.items ≡ refused_name_for refused.now why.now name.now) }
 {
     line_of(alloc, &name_reason_value(alloc, refused, why, name)?)
@@ -71,6 +81,13 @@ fn refused_at(alloc: Global, refused: &str, why: &str, at: usize) -> Result<Vec<
     ensures { IfOk result (λ text. text.items ≡ refused_at refused.now why.now at) }
 {
     line_of(alloc, &at_value(alloc, refused, why, at as u64)?)
+}
+
+/// The refusal for a name in a condition that dbe keeps for itself.
+pub(crate) fn not_searchable(alloc: Global, name: &str) -> Result<Vec<u8>, Memory>
+    ensures { IfOk result (λ text. text.items ≡ refused_name_for (codes "rewriting") (codes "NotSearchable") name.now) }
+{
+    refused_name_for(alloc, "rewriting", "NotSearchable", name)
 }
 
 /// The refusal for a fault of a value.
@@ -131,22 +148,6 @@ pub(crate) fn cond_refusal(alloc: Global, fault: &CondFault) -> Result<Vec<u8>, 
     }
 }
 
-/// The reply to a query: of the rows that the table handed out, those of which the condition holds.
-pub(crate) fn selected_text(alloc: Global, cond: &Cond, found: &[Item]) -> Result<Vec<u8>, Memory>
-    ensures { IfOk result (λ text. text.items ≡ selected_text (condition_of cond.now) found.now) }
-{
-    let mut text = Vec::new(alloc);
-    let mut count = 0u64;
-    for item in found {
-        if holds(cond, item) {
-            text.extend_from_slice(&item_text(alloc, item)?)?;
-            count += 1;
-        }
-    }
-    text.extend_from_slice(&count_text(alloc, count, found.len() as u64)?)?;
-    Ok(text)
-}
-
 /// The line of an item.
 pub(crate) fn item_text(alloc: Global, item: &Item) -> Result<Vec<u8>, Memory>
     ensures { IfOk result (λ text. text.items ≡ item_text item.now) }
@@ -154,13 +155,15 @@ pub(crate) fn item_text(alloc: Global, item: &Item) -> Result<Vec<u8>, Memory>
     line_of(alloc, &item_value(alloc, item)?)
 }
 
-fn count_text(alloc: Global, count: u64, scanned: u64) -> Result<Vec<u8>, Memory>
+/// The line that counts the items printed and the rows handed out.
+pub(crate) fn count_text(alloc: Global, count: u64, scanned: u64) -> Result<Vec<u8>, Memory>
     ensures { IfOk result (λ text. text.items ≡ count_text count scanned) }
 {
     line_of(alloc, &count_value(alloc, count, scanned)?)
 }
 
-fn line_of(alloc: Global, value: &Value) -> Result<Vec<u8>, Memory>
+/// A JSON value without floats in a line of its own.
+pub(crate) fn line_of(alloc: Global, value: &Value) -> Result<Vec<u8>, Memory>
     requires { has_float (view value.now) ≡ false }
     ensures { IfOk result (λ text. text.items ≡ line_of (view value.now)) }
 {
@@ -187,6 +190,18 @@ fn checked_value(alloc: Global) -> Result<Value, Memory>
     Ok(
         json!(in alloc; {"checked": {"beacons": true, "encrypted": 0u64, "recipient": null, "signed": 0u64}})?,
     )
+}
+
+fn every_value(alloc: Global) -> Result<Value, Memory>
+    ensures { IfOk result (λ v. view v ≡ object (member (codes "every") (boolean true) no_members)) }
+{
+    Ok(json!(in alloc; {"every": true})?)
+}
+
+fn split_value(alloc: Global, beacon: &str, part: &str) -> Result<Value, Memory>
+    ensures { IfOk result (λ v. view v ≡ object (member (codes "beacon") (string beacon.now) (member (codes "part") (string part.now) (member (codes "refused") (string (codes "split")) no_members)))) }
+{
+    Ok(json!(in alloc; {"beacon": beacon, "part": part, "refused": "split"})?)
 }
 
 fn refused_value(alloc: Global, why: &str) -> Result<Value, Memory>

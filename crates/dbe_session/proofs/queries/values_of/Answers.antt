@@ -1,4 +1,4 @@
-use Rattle.std.proofs.Common.{◌∙◌, sym}
+use Rattle.std.proofs.Common.{◌∙◌}
 use Rattle.dbe_session.proofs.Asked.{names_behind, order_step, values_step}
 use Rattle.dbe_session.proofs.queries.values_of.Goals as goal
 

@@ -1,11 +1,10 @@
-use Rattle.std.proofs.Common.{Result, Ok, Err, IfOk, OnErr}
 use Rattle.dbe_cond.specs.Condition.{condition_of}
 use Rattle.dbe_session.proofs.Replies.{answered, not_answered, cond_refused, then_ok, then_err}
-use Rattle.dbe_session.proofs.session.answer.Goals as goal
+use Rattle.dbe_session.proofs.searching.query_table.Goals as goal
 
 pub returns-in-Ok-clause-ok : goal.returns-in-Ok-clause-ok
 returns-in-Ok-clause-ok g c = then_ok c.search.result _ _ (λ text p s are.
-    answered c.args.config.now s c.args.query.now (condition_of c.in-Ok.cond) _ _ _ _ (rw c.as_str.ensures at c.in-Ok.ensures.ok) are c.search.ensures.same _ (p s are).0 (p s are).1) c.search.ensures.ok
+    answered c.args.config.now s c.args.query.now (condition_of c.in-Ok.cond) _ _ _ _ (rw c.as_str.ensures at c.in-Ok.ensures.ok) are c.search.ensures.same _ (p s are)) c.search.ensures.ok
 
 pub returns-in-Ok-clause-err : goal.returns-in-Ok-clause-err
 returns-in-Ok-clause-err g c = then_err c.search.result _ _ (λ p s are.
