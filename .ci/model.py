@@ -187,7 +187,7 @@ def cut(text):
         at = sign.end()
     depth = deepest = 0
     for _, sign in found:
-        depth += {"(": 1, ")": -1}.get(sign, 0)
+        depth = max(depth + {"(": 1, ")": -1}.get(sign, 0), 0)
         deepest = max(depth, deepest)
     if deepest > 64 or sum(sign.upper() == "NOT" for _, sign in found) > 64:
         refused(why="TooDeep")
