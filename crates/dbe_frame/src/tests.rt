@@ -16,6 +16,8 @@ const CONFIG: &str =
 const ROW: &str =
     r#"{"id":{"S":"c-1"},"ssn":{"S":"123-45-6789"},"state":{"S":"WA"},"town":{"S":"Seattle"},"email":{"S":"Ann@Example.COM"},"age":{"N":"41.0"},"note":{"S":"vip"},"name":{"S":"Ann"},"phone":{"S":"555-0100"},"photo":{"B":"AAEC"},"active":{"BOOL":true},"tags":{"SS":["b","a"]},":free":{"NULL":true},"aws_dbe_v_1":{"S":" "}}"#;
 
+const SMALL_ROW: &str = r#"{"id":{"S":"c-1"},"age":{"N":"41"},"note":{"S":"vip"}}"#;
+
 /// A header with the legend `se`, no context, and one data key with provider "n", info "k" and 108 bytes.
 const HEADER: &str =
     "010011111111111111111111111111111111111111111111111111111111111111110002736500000100016e00016b006c3333333333333333333333333333333333333333333333333333333333333333333333333333333333333333333333333333333333333333333333333333333333333333333333333333333333333333333333333333333333333333333333333333333333333333333333332222222222222222222222222222222222222222222222222222222222222222";
@@ -54,6 +56,38 @@ fn bytes_of(alloc: Global, text: &str) -> Result<Vec<u8>, Fail> {
     Ok(out)
 }
 
+fn sample(alloc: Global) -> Result<Vec<u8>, Fail> {
+    bytes_of(alloc, HEADER)
+}
+
+/// A header with these fields of the context.
+fn with_context(alloc: Global, fields: &str) -> Result<Vec<u8>, Fail> {
+    let mut bytes = bytes_of(alloc, FRONT)?;
+    bytes.extend_from_slice(&bytes_of(alloc, fields)?)?;
+    bytes.extend_from_slice(&bytes_of(alloc, BACK)?)?;
+    Ok(bytes)
+}
+
+fn expected_record(alloc: Global) -> Result<Vec<u8>, Fail> {
+    bytes_of(alloc, RECORD)
+}
+
+fn expected_context(alloc: Global) -> Result<Vec<u8>, Fail> {
+    bytes_of(alloc, CONTEXT)
+}
+
+fn expected_sorted(alloc: Global) -> Result<Vec<u8>, Fail> {
+    bytes_of(alloc, SORTED)
+}
+
+fn row(alloc: Global) -> Result<Item, Fail> {
+    item(alloc, ROW)
+}
+
+fn small_row(alloc: Global) -> Result<Item, Fail> {
+    item(alloc, SMALL_ROW)
+}
+
 fn fault_at(alloc: Global, bytes: &[u8]) -> Option<u64> {
     match read(alloc, bytes) {
         Err(FrameFault::HeaderFault { at }) => Some(at),
@@ -77,7 +111,7 @@ fn field_at(place: usize) -> u64 {
 #[test]
 fn a_header_is_read_and_written(rt: HostRuntime) -> Result<(), Fail> {
     let alloc = rt.alloc();
-    let bytes = bytes_of(alloc, HEADER)?;
+    let bytes = sample(alloc)?;
     let header = read(alloc, &bytes).ok().ok_or("a header")?;
     assert_eq!(rt; write(alloc, &header)?.as_slice(), bytes.as_slice());
     assert_eq!(rt; bytes.len(), 189);
@@ -88,7 +122,7 @@ fn a_header_is_read_and_written(rt: HostRuntime) -> Result<(), Fail> {
 #[test]
 fn cut_headers(rt: HostRuntime) -> Result<(), Fail> {
     let alloc = rt.alloc();
-    let bytes = bytes_of(alloc, HEADER)?;
+    let bytes = sample(alloc)?;
     for cut in 0..bytes.len() {
         assert_eq!(rt; fault_at(alloc, &bytes[..cut]), Some(field_at(cut)));
     }
@@ -102,7 +136,7 @@ fn expect_byte(
     byte: u8,
     fault: Option<u64>,
 ) -> Result<(), Fail> {
-    let mut bytes = bytes_of(alloc, HEADER)?;
+    let mut bytes = sample(alloc)?;
     if place < bytes.len() {
         bytes[place] = byte;
     } else {
@@ -132,7 +166,7 @@ fn expect_context(
     fields: &str,
     fault: Option<u64>,
 ) -> Result<(), Fail> {
-    let bytes = bytes_of(alloc, format!(in alloc; "{FRONT}{fields}{BACK}")?.as_str())?;
+    let bytes = with_context(alloc, fields)?;
     assert_eq!(rt; fault_at(alloc, &bytes), fault);
     assert_eq!(rt; read(alloc, &bytes).is_ok(), fault.is_none());
     Ok(())
@@ -173,7 +207,7 @@ fn expect_footer(
 #[test]
 fn footers(rt: HostRuntime) -> Result<(), Fail> {
     let alloc = rt.alloc();
-    let bytes = bytes_of(alloc, HEADER)?;
+    let bytes = sample(alloc)?;
     assert!(rt; bytes.len() > 96);
     expect_footer(&rt, alloc, &bytes[..47], 1, false)?;
     expect_footer(&rt, alloc, &bytes[..48], 1, true)?;
@@ -199,7 +233,7 @@ fn people(alloc: Global) -> Result<Config, Fail> {
 #[test]
 fn names_of_a_row(rt: HostRuntime) -> Result<(), Fail> {
     let alloc = rt.alloc();
-    let names = signed_names(alloc, &people(alloc)?, &item(alloc, ROW)?)?;
+    let names = signed_names(alloc, &people(alloc)?, &row(alloc)?)?;
     let mut text = String::new(alloc);
     for name in &names {
         text.push_str(name.as_str())?;
@@ -220,16 +254,13 @@ const RECORD: &str =
 fn a_record(rt: HostRuntime) -> Result<(), Fail> {
     let alloc = rt.alloc();
     let config = people(alloc)?;
-    let row = item(
-        alloc,
-        r#"{"id":{"S":"c-1"},"age":{"N":"41"},"note":{"S":"vip"}}"#,
-    )?;
+    let row = small_row(alloc)?;
     let names = signed_names(alloc, &config, &row)?;
     let legend = bytes_of(alloc, "7365")?;
     assert_eq!(rt; legend.len(), names.len());
     let head = bytes_of(alloc, "48454144")?;
     let text = record_text(alloc, &head, &config, &row, &legend)?;
-    assert_eq!(rt; text.as_slice(), bytes_of(alloc, RECORD)?.as_slice());
+    assert_eq!(rt; text.as_slice(), expected_record(alloc)?.as_slice());
     Ok(())
 }
 
@@ -244,7 +275,7 @@ fn short(rt: &impl Abort, alloc: Global, text: &str) -> Result<Text, Fail>
 }
 
 fn header_with(alloc: Global, fields: &str) -> Result<Header, Fail> {
-    let bytes = bytes_of(alloc, format!(in alloc; "{FRONT}{fields}{BACK}")?.as_str())?;
+    let bytes = with_context(alloc, fields)?;
     Ok(read(alloc, &bytes).ok().ok_or("a header")?)
 }
 
@@ -270,7 +301,7 @@ fn a_context(rt: HostRuntime) -> Result<(), Fail> {
         sort: None,
     };
     let bytes = context_bytes(alloc, &schema, &table, &key, header.context())?;
-    assert_eq!(rt; bytes.as_slice(), bytes_of(alloc, CONTEXT)?.as_slice());
+    assert_eq!(rt; bytes.as_slice(), expected_context(alloc)?.as_slice());
     Ok(())
 }
 
@@ -302,6 +333,6 @@ fn a_context_with_a_sort_key(rt: HostRuntime) -> Result<(), Fail> {
         sort: Some(AttrValue::S(sort_value)),
     };
     let bytes = context_bytes(alloc, &schema, &table, &key, header.context())?;
-    assert_eq!(rt; bytes.as_slice(), bytes_of(alloc, SORTED)?.as_slice());
+    assert_eq!(rt; bytes.as_slice(), expected_sorted(alloc)?.as_slice());
     Ok(())
 }
