@@ -14,7 +14,7 @@ use Rattle.dbe_values.specs.Sets.{IsIncreasing}
 use Rattle.dbe_values.proofs.Placing.{order}
 use Rattle.dbe_cond.specs.Given.{given, IsBehind}
 
-equal_at : (x p : List ℕ) (o : Ordering) → order p x ≡ o → bytes_eq x p ≡ is_eq (ordering_reverse o)
+pub equal_at : (x p : List ℕ) (o : Ordering) → order p x ≡ o → bytes_eq x p ≡ is_eq (ordering_reverse o)
 equal_at x p o e = sym (is_eq-slice_cmp x p) ∙ ap is_eq (nat_list_cmp_total.antisymm x p ∙ ap ordering_reverse e)
 
 -- the key of an entry that was read
@@ -23,6 +23,15 @@ entry_key es m e is = ap (λ x. x.0) is ∙ sym (get_or-map (λ x. x.0) es m e)
 
 pub length_keys : {X : Type 0} (es : List (List ℕ × X)) → length (keys_of es) ≡ length es
 length_keys es = length-map es (λ e. e.0)
+
+-- what a comparison with a key that was read says of the key at its place
+pub read_key : {X : Type 0} (es : List (List ℕ × X)) (p : List ℕ) (m : ℕ) (d : List ℕ × X) (s : List ℕ) (o : Ordering) → m < length es → s ≡ (get_or es m d).0 → o ≡ order p s → order p (get_or (keys_of es) m []) ≡ o
+read_key es p m d s o lt same e = ap (order p) (read es m d lt ∙ sym same) ∙ sym e
+  where
+    read : {X : Type 0} (es : List (List ℕ × X)) (m : ℕ) (d : List ℕ × X) → m < length es → get_or (keys_of es) m [] ≡ (get_or es m d).0
+    read [] m d lt = absurd (omega arith)
+    read (e ∷ es) zero d lt = refl
+    read (e ∷ es) (suc m) d lt = read es m d (omega arith)
 
 pub given_at : {X : Type 0} (es : List (List ℕ × X)) (p : List ℕ) (m : ℕ) (r : List ℕ × X) → m < length es → r ≡ get_or es m r → order p r.0 ≡ Equal → ((k : ℕ) → k < m → order p (get_or (keys_of es) k []) ≡ Greater) → given p es ≡ Some r.1
 given_at [] p m r lt is same below = absurd (omega arith)

@@ -78,6 +78,12 @@ pub record HasLongList (text : List ℕ) : Type 0 where
   pub parses : Parses text tokens form
   pub long : has_long_list form ≡ true
 
+-- neither its length, nor its depth, nor a list of IN is past a limit
+pub record IsWithinLimits (text : List ℕ) : Type 0 where
+  pub short : length text ≤ 4096
+  pub shallow : NestsTooDeep text → ⊥
+  pub lists : HasLongList text → ⊥
+
 -- the first placeholder of a name that is not given
 pub record LacksName (text : List ℕ) (names : List (List ℕ × List ℕ)) (name : List ℕ) : Type 0 where
   pub tokens : List Token

@@ -1,8 +1,13 @@
-ghost use Rattle.std.specs.Prelude.{◌≡◌, [], ◌∷◌, ◌++◌, ◌<◌, ◌↔◌, IsTrue, OnOk, OnErr, length, option_map, slice_get, Some};
+ghost use Rattle.std.specs.Prelude.{◌≡◌, [], ◌∷◌, ◌++◌, ◌<◌, ◌↔◌, IsTrue, IfOk, IfErr, OnOk, OnErr, length, get_or, option_map, slice_get, Some, codes};
 ghost use Rattle.std.specs.Map.{keys_of};
-ghost use Rattle.dbe_values.specs.Sets.{IsIncreasing};
+ghost use Rattle.std.specs.Ordering.{nat_cmp};
+ghost use Rattle.std.specs.Cmp.Lexicographic.{slice_cmp};
+ghost use Rattle.std.specs.BTreeMap.{insert_entry};
+ghost use Rattle.dbe_values.specs.Sets.{IsIncreasing, IsGap};
 ghost use Rattle.dbe_cond.specs.Given.{given, IsBehind};
+ghost use Rattle.dbe_cond.specs.Printed.{by_placeholder};
 
+use crate::numbered::by_placeholder;
 use dbe_num::{Memory, Text};
 use dbe_values::AttrValue;
 use std::alloc::Global;
@@ -61,6 +66,15 @@ impl Names {
         ensures { option_map (λ n. n.now) result ≡ given placeholder.now self.now }
     {
         given(&self.entries, placeholder.as_bytes())
+    }
+
+    /// Names of a condition, each for the placeholder of its place.
+    pub(crate) fn numbered(alloc: Global, found: Vec<Text>) -> Result<Names, Memory>
+        ensures { IfOk result (λ names. names ≡ by_placeholder (codes "#") found.items) }
+    {
+        Ok(Names {
+            entries: by_placeholder(alloc, "#", found)?,
+        })
     }
 
     pub(crate) fn get_bytes(&self, placeholder: &[u8]) -> Option<&Text>
@@ -145,6 +159,15 @@ impl Values {
         given(&self.entries, placeholder.as_bytes())
     }
 
+    /// Values of a condition, each for the placeholder of its place.
+    pub(crate) fn numbered(alloc: Global, found: Vec<AttrValue>) -> Result<Values, Memory>
+        ensures { IfOk result (λ values. values ≡ by_placeholder (codes ":") found.items) }
+    {
+        Ok(Values {
+            entries: by_placeholder(alloc, ":", found)?,
+        })
+    }
+
     pub(crate) fn get_bytes(&self, placeholder: &[u8]) -> Option<&AttrValue>
         ensures { option_map (λ v. v.now) result ≡ given placeholder.now self.now }
     {
@@ -172,18 +195,51 @@ fn given<'a, X>(entries: &'a [(Text, X)], placeholder: &[u8]) -> Option<&'a X>
     requires { IsIncreasing (keys_of entries.now) }
     ensures { option_map (λ x. x.now) result ≡ given placeholder.now entries.now }
 {
+    match place_of(entries, placeholder) {
+        Ok(i) => Some(&entries[i].1),
+        Err(_) => None,
+    }
+}
+
+/// The place of a placeholder, or the place where it would go. Takes no memory.
+fn place_of<X>(entries: &[(Text, X)], placeholder: &[u8]) -> Result<usize, usize>
+    requires { IsIncreasing (keys_of entries.now) }
+    ensures there { IfOk result (λ i. (i < length (keys_of entries.now)) × (get_or (keys_of entries.now) i [] ≡ placeholder.now)) }
+    ensures gap { IfErr result (λ i. IsGap (keys_of entries.now) placeholder.now i) }
+{
     let mut low = 0;
     let mut high = entries.len();
     while low < high {
         let middle = low + (high - low) / 2;
-        let entry = &entries[middle];
-        match placeholder.cmp(&entry.0.as_bytes()) {
+        match placeholder.cmp(&entries[middle].0.as_bytes()) {
             Ordering::Less => high = middle,
-            Ordering::Equal => return Some(&entry.1),
+            Ordering::Equal => return Ok(middle),
             Ordering::Greater => low = middle + 1,
         }
     }
-    None
+    Err(low)
+}
+
+/// Gives something for a placeholder, in place of what was given before.
+pub(crate) fn put_among<X: Drop>(
+    entries: &mut Vec<(Text, X)>,
+    placeholder: Text,
+    x: X,
+) -> Result<(), Memory>
+    requires { IsIncreasing (keys_of entries.old.items) }
+    ensures ok { OnOk result (entries.new.items ≡ insert_entry (slice_cmp nat_cmp) entries.old.items placeholder x) }
+    ensures increasing { IsIncreasing (keys_of entries.new.items) }
+{
+    match place_of(entries, placeholder.as_bytes()) {
+        Ok(i) => {
+            entries[i].1 = x;
+            Ok(())
+        }
+        Err(i) => {
+            entries.insert(i, (placeholder, x))?;
+            Ok(())
+        }
+    }
 }
 
 fn is_behind<X>(entries: &[(Text, X)], placeholder: &[u8]) -> bool

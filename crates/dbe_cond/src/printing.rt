@@ -1,9 +1,13 @@
 ghost use Rattle.std.specs.Prelude.{◌≡◌, IfOk};
-ghost use Rattle.dbe_cond.specs.Condition.{condition_of};
+ghost use Rattle.dbe_cond.specs.Condition.{Condition, condition_of, IsLawful};
 ghost use Rattle.dbe_cond.specs.Names.{names_of};
 ghost use Rattle.dbe_cond.specs.Printed.{printed_text, printed_names, printed_values};
+ghost use Rattle.dbe_cond.specs.Reading.{Reads, IsWithinLimits};
 
-use crate::{Cond, Printed};
+use crate::collect::{push_names, push_values};
+use crate::shape::shape;
+use crate::spell::spell;
+use crate::{Cond, Names, Printed, Values};
 use dbe_num::{Memory, Text};
 use sqlite_items::Items;
 use std::alloc::Global;
@@ -18,16 +22,30 @@ pub fn print(alloc: Global, cond: &Cond) -> Result<Printed, Memory>
     ensures names { IfOk result (λ p. p.names ≡ printed_names (condition_of cond.now)) }
     ensures values { IfOk result (λ p. p.values ≡ printed_values (condition_of cond.now)) }
 {
-    let _ = alloc;
-    let _ = cond;
-    Err(Memory)
+    let tree = shape(alloc, cond)?;
+    let mut tokens = Items::new(alloc);
+    dbe_grammar::print(&mut tokens, &tree)?;
+    let mut names = Vec::new(alloc);
+    push_names(alloc, &mut names, cond)?;
+    let mut values = Vec::new(alloc);
+    push_values(alloc, &mut values, cond)?;
+    Ok(Printed {
+        text: Text::from_string(spell(alloc, tokens.as_slice())?),
+        names: Names::numbered(alloc, names)?,
+        values: Values::numbered(alloc, values)?,
+    })
 }
 
 /// The names of a condition, in the order in which they stand in its text.
 pub fn names_in(alloc: Global, cond: &Cond) -> Result<Items<Text>, Memory>
     ensures { IfOk result (λ names. names ≡ names_of (condition_of cond.now)) }
 {
-    let _ = alloc;
-    let _ = cond;
-    Err(Memory)
+    let mut names = Vec::new(alloc);
+    push_names(alloc, &mut names, cond)?;
+    Ok(Items::from_vec(names))
 }
+
+/// Reading what is printed gives the same condition, where the text is within the limits of `read`.
+pub fn printed_is_read()
+    ensures { (c : Condition) → IsLawful c → IsWithinLimits (printed_text c) → Reads (printed_text c) (printed_names c) (printed_values c) c }
+{}
