@@ -1,1 +1,7 @@
+pub mod Cutting
+pub mod Encoding
+pub mod Joining
+pub mod Lists
+pub mod Removal
 pub mod Values
+pub mod Views

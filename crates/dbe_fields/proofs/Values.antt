@@ -148,6 +148,18 @@ module _ {A : Type 0} (f : A → List ℕ) (n : List ℕ) where
   unfound [] among = refl
   unfound (x ∷ xs) among = unfound_by x xs among (unfound xs) (bytes_eq n (f x)) refl
 
+module _ {A : Type 0} (f : A → List ℕ) (n : List ℕ) where
+  missing_by : (x : A) (xs : List A) → (None ≡ find (λ x. bytes_eq n (f x)) xs → is_among n (map f xs) ≡ false) → (b : Bool) → bytes_eq n (f x) ≡ b → None ≡ cond b (Some x) (find (λ x. bytes_eq n (f x)) xs) → is_among n (map f (x ∷ xs)) ≡ false
+  missing_by x xs more true same none = absurd (cc)
+  missing_by x xs more false apart none = rw apart (more none)
+
+  missing : (xs : List A) → None ≡ find (λ x. bytes_eq n (f x)) xs → is_among n (map f xs) ≡ false
+  missing [] none = refl
+  missing (x ∷ xs) none = missing_by x xs (missing xs) (bytes_eq n (f x)) refl none
+
+pub not_computed : (s : Setting) (name : List ℕ) → None ≡ compound_named s name → None ≡ virtual_named s name → is_computed s name ≡ false
+not_computed s name compound field = rw (missing (λ (c : Compound). c.name) name s.compounds compound) (missing (λ (v : Virtual). v.name) name s.virtuals field)
+
 neither : (a b : Bool) → (a || b) ≡ false → (a ≡ false) × (b ≡ false)
 neither true b h = absurd (cc)
 neither false b h = (refl, h)

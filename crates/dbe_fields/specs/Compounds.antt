@@ -1,5 +1,6 @@
 -- The texts of compounds (this project's own).
 use Rattle.std.specs.Prelude.{ℕ, ◌||◌, not, Bool, List, ◌++◌, map, find, filter_map, slice_get, bytes_eq, Option, option_and_then, option_map, is_some, if◌then◌else◌}
+use Rattle.std.specs.Option.{option_zip, option_flatten}
 use Rattle.std.specs.List.{list_all, join_with_byte}
 use Rattle.dbe_values.specs.Attributes.{value_at}
 use Rattle.dbe_values.specs.declared.value.AttrValue.{AttrValue}
@@ -16,21 +17,30 @@ use Rattle.dbe_fields.specs.Virtuals.{field_value}
 abbrev pub part_text : Setting → List (List ℕ × AttrValue) → Part → Option (List ℕ)
 part_text s row p = option_and_then value_text (if p.encrypted then field_value s p.from row else value_at p.from row)
 
+abbrev pub part_texts : Setting → List (List ℕ × AttrValue) → Compound → List (Option (List ℕ))
+part_texts s row c = map (part_text s row) c.parts
+
 -- the part that an entry of a constructor names, with its text, where it is present
-abbrev pub present : Setting → List (List ℕ × AttrValue) → List Part → ConstructorPart → Option (Part × List ℕ)
-present s row parts e = option_and_then (λ p. option_map (λ text. (p, text)) (part_text s row p)) (slice_get parts e.part)
+abbrev pub present : List Part → List (Option (List ℕ)) → ConstructorPart → Option (Part × List ℕ)
+present parts texts e = option_zip (slice_get parts e.part) (option_flatten (slice_get texts e.part))
+
+abbrev pub is_satisfied : List Part → List (Option (List ℕ)) → ConstructorPart → Bool
+is_satisfied parts texts e = not e.required || is_some (present parts texts e)
 
 -- all required parts are present
-abbrev pub is_usable : Setting → List (List ℕ × AttrValue) → List Part → Constructor → Bool
-is_usable s row parts k = list_all (λ e. not e.required || is_some (present s row parts e)) k.parts
+abbrev pub is_usable : List Part → List (Option (List ℕ)) → Constructor → Bool
+is_usable parts texts k = list_all (is_satisfied parts texts) k.parts
 
 -- the present parts of the first usable constructor, in its order
 abbrev pub used_parts : Setting → List (List ℕ × AttrValue) → Compound → Option (List (Part × List ℕ))
-used_parts s row c = option_map (λ k. filter_map (present s row c.parts) k.parts) (find (is_usable s row c.parts) c.constructors)
+used_parts s row c = option_map (λ k. filter_map (present c.parts (part_texts s row c)) k.parts) (find (is_usable c.parts (part_texts s row c)) c.constructors)
 
--- prefix and text of each used part, joined by the split character
+-- prefix and text of each part, joined by the split character
+abbrev pub joined_pieces : ℕ → List (Part × List ℕ) → List ℕ
+joined_pieces split used = join_with_byte split (map (λ u. u.0.prefix ++ u.1) used)
+
 abbrev pub compound_text : Setting → List (List ℕ × AttrValue) → Compound → Option (List ℕ)
-compound_text s row c = option_map (λ used. join_with_byte c.split (map (λ u. u.0.prefix ++ u.1) used)) (used_parts s row c)
+compound_text s row c = option_map (joined_pieces c.split) (used_parts s row c)
 
 abbrev pub compound_named : Setting → List ℕ → Option Compound
 compound_named s name = find (λ c. bytes_eq name c.name) s.compounds

@@ -18,16 +18,16 @@ joined [] = Some []
 joined (None ∷ others) = None
 joined (Some cs ∷ others) = option_map (λ ds. cs ++ ds) (joined others)
 
--- the S of the parts' texts joined
-abbrev pub virtual_value : List (List ℕ × AttrValue) → Virtual → Option AttrValue
-virtual_value row v = option_map (λ cs. S (encode_utf8_all cs)) (joined (map (part_chars row) v.parts))
+-- the parts' texts joined
+abbrev pub virtual_text : List (List ℕ × AttrValue) → List VirtualPart → Option (List ℕ)
+virtual_text row parts = option_map encode_utf8_all (joined (map (part_chars row) parts))
 
 abbrev pub virtual_named : Setting → List ℕ → Option Virtual
 virtual_named s name = find (λ v. bytes_eq name v.name) s.virtuals
 
 abbrev pub virtual_or_attribute : Option Virtual → List ℕ → List (List ℕ × AttrValue) → Option AttrValue
 virtual_or_attribute None name row = value_at name row
-virtual_or_attribute (Some v) name row = virtual_value row v
+virtual_or_attribute (Some v) name row = option_map S (virtual_text row v.parts)
 
 -- the value of a virtual field, else of an attribute
 abbrev pub field_value : Setting → List ℕ → List (List ℕ × AttrValue) → Option AttrValue

@@ -1,14 +1,92 @@
-ghost use Rattle.std.specs.Prelude.{◌≡◌, IfOk};
-ghost use Rattle.dbe_fields.specs.Extended.{extended};
+ghost use Rattle.std.specs.Prelude.{◌≡◌, true, not, IfOk, OnOk, filter, fold};
+ghost use Rattle.dbe_values.specs.Attributes.{is_name};
+ghost use Rattle.dbe_config.specs.Rules.{is_among, compound_names, virtual_names};
+ghost use Rattle.dbe_fields.specs.Plain.{plain, is_computed};
+ghost use Rattle.dbe_fields.specs.Extended.{extended, with_value};
 
-use dbe_config::Config;
-use dbe_num::Memory;
-use dbe_values::Item;
+use crate::value::computed_text;
+use dbe_config::{Compound, Config, Virtual};
+use dbe_num::{Memory, Text};
+use dbe_values::{AttrValue, Item};
 use std::alloc::Global;
 
 /// The item in which the name of each virtual field and compound has its value, or is absent.
 pub fn extended(alloc: Global, config: &Config, item: &Item) -> Result<Item, Memory>
     ensures { IfOk result (λ i. i ≡ extended config.now item.now) }
 {
-    Err(Memory)
+    let mut target = item.copy(alloc)?;
+    remove_compounds(config.compounds(), &mut target);
+    remove_virtuals(config.virtuals(), &mut target);
+    put_compounds(alloc, config, item, &mut target)?;
+    put_virtuals(alloc, config, item, &mut target)?;
+    Ok(target)
+}
+
+fn remove_compounds(compounds: &[Compound], target: &mut Item)
+    ensures { target.new ≡ filter (λ a. not (is_among a.0 (compound_names compounds.now))) target.old }
+{
+    for compound in compounds {
+        target.is_lawful();
+        let _ = target.remove(compound.name.as_str());
+    }
+}
+
+fn remove_virtuals(virtuals: &[Virtual], target: &mut Item)
+    ensures { target.new ≡ filter (λ a. not (is_among a.0 (virtual_names virtuals.now))) target.old }
+{
+    for field in virtuals {
+        target.is_lawful();
+        let _ = target.remove(field.name.as_str());
+    }
+}
+
+fn put_compounds(
+    alloc: Global,
+    config: &Config,
+    item: &Item,
+    target: &mut Item,
+) -> Result<(), Memory>
+    ensures { OnOk result (target.new ≡ fold (λ r name. with_value name (plain config.now name item.now) r) target.old (compound_names config.now.compounds)) }
+{
+    config.keeps_bounds();
+    for compound in config.compounds() {
+        put_computed(alloc, config, &compound.name, item, target)?;
+    }
+    Ok(())
+}
+
+fn put_virtuals(
+    alloc: Global,
+    config: &Config,
+    item: &Item,
+    target: &mut Item,
+) -> Result<(), Memory>
+    ensures { OnOk result (target.new ≡ fold (λ r name. with_value name (plain config.now name item.now) r) target.old (virtual_names config.now.virtuals)) }
+{
+    config.keeps_bounds();
+    for field in config.virtuals() {
+        put_computed(alloc, config, &field.name, item, target)?;
+    }
+    Ok(())
+}
+
+fn put_computed(
+    alloc: Global,
+    config: &Config,
+    name: &Text,
+    item: &Item,
+    target: &mut Item,
+) -> Result<(), Memory>
+    requires named { is_name name.now ≡ true }
+    requires computed { is_computed config.now name.now ≡ true }
+    ensures { OnOk result (target.new ≡ with_value name.now (plain config.now name.now item.now) target.old) }
+{
+    match computed_text(alloc, config, name, item)? {
+        Some(text) => {
+            let _ = text.as_str();
+            target.put(name.copy(alloc)?, AttrValue::S(text))?;
+            Ok(())
+        }
+        None => Ok(()),
+    }
 }
