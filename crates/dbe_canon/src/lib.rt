@@ -16,9 +16,9 @@ pub use fault::CanonFault;
 pub use kind::type_id;
 pub use laws::{one_spelling, one_value, path_order, short_parts, written_again};
 pub use length::canon_len;
-pub use paths::{name_order, path};
+pub use paths::{name_order, path, put_path};
 pub use reading::read;
-pub use writing::canon;
+pub use writing::{canon, put_canon, set_length};
 
 #[cfg(test)]
 mod tests;

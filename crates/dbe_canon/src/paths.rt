@@ -1,4 +1,4 @@
-ghost use Rattle.std.specs.Prelude.{◌≡◌, IfOk};
+ghost use Rattle.std.specs.Prelude.{◌≡◌, ◌++◌, IfOk, OnOk};
 ghost use Rattle.dbe_canon.specs.Path.{path_of, name_cmp};
 
 use crate::writing::{put_count, put_string};
@@ -12,11 +12,18 @@ pub fn path(alloc: Global, table: &[u8], name: &[u8]) -> Result<Vec<u8>, Memory>
     ensures { IfOk result (λ bytes. bytes.items ≡ path_of table.now name.now) }
 {
     let mut out = Vec::new(alloc);
-    put_string(&mut out, table)?;
-    put_count(&mut out, 1)?;
-    out.push(b'$')?;
-    put_string(&mut out, name)?;
+    put_path(&mut out, table, name)?;
     Ok(out)
+}
+
+/// Writes the path of an attribute at the end of `out`.
+pub fn put_path(out: &mut Vec<u8>, table: &[u8], name: &[u8]) -> Result<(), Memory>
+    ensures { OnOk result (out.new.items ≡ out.old.items ++ path_of table.now name.now) }
+{
+    put_string(out, table)?;
+    put_count(out, 1)?;
+    out.push(b'$')?;
+    put_string(out, name)
 }
 
 /// The order of two names: shorter ones first, and those of one length by their bytes. Takes no memory.

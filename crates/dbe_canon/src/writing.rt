@@ -19,7 +19,13 @@ pub fn canon(alloc: Global, value: &AttrValue) -> Result<Vec<u8>, Memory>
     Ok(out)
 }
 
-/// Writes the canonical bytes at the end.
+/// Writes the canonical bytes of a value at the end of `out`.
+pub fn put_canon(out: &mut Vec<u8>, alloc: Global, value: &AttrValue) -> Result<(), Memory>
+    ensures { OnOk result (out.new.items ≡ out.old.items ++ canon_of (view value.now)) }
+{
+    put_value(out, alloc, value)
+}
+
 #[cycle(write)]
 #[tactic(auto, unfolding(crate::specs::Canon::canon_of))]
 fn put_value(out: &mut Vec<u8>, alloc: Global, value: &AttrValue) -> Result<(), Memory>
@@ -95,9 +101,9 @@ fn put_typed(out: &mut Vec<u8>, alloc: Global, value: &AttrValue) -> Result<(), 
     Ok(())
 }
 
-/// Writes how many bytes stand behind the 8 at `start` into these.
+/// Writes how many bytes stand behind the 8 at `start` into these 8, big-endian.
 #[tactic(auto, unfolding(crate::specs::Canon::count_bytes))]
-fn set_length(out: &mut Vec<u8>, start: usize)
+pub fn set_length(out: &mut Vec<u8>, start: usize)
     requires { start + 8 ≤ length out.old.items }
     ensures { out.new.items ≡ take start out.old.items ++ long_string (drop (start + 8) out.old.items) }
 {

@@ -11,7 +11,7 @@ ghost use Rattle.dbe_session.specs.Steps.{Replied};
 ghost use Rattle.dbe_session.specs.Texts.{names_data, condition_data, condition_text};
 
 use crate::Query;
-use crate::searching::has_computed;
+use crate::computing::has_computed;
 use crate::texts::{cond_refusal, every_text, line_of, not_searchable};
 use dbe_cond::{Cond, Names, Printed, Values, first_name_with, print, read};
 use dbe_config::Config;
@@ -43,7 +43,7 @@ fn explained(alloc: Global, config: &Config, cond: &Cond) -> Result<Vec<u8>, Mem
 fn explained_text(alloc: Global, config: &Config, cond: &Cond) -> Result<Vec<u8>, Memory>
     ensures { IfOk result (λ text. text.items ≡ explained_text config.now (condition_of cond.now)) }
 {
-    if has_computed(alloc, config, cond)? {
+    if has_computed(config, cond) {
         return every_text(alloc);
     }
     let printed = print(alloc, cond)?;

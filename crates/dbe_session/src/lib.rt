@@ -1,6 +1,7 @@
 //! The session: a line of the script to its reply.
 #![tactic(auto)]
 
+mod computing;
 mod explaining;
 mod queries;
 mod request;

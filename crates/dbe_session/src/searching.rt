@@ -1,20 +1,19 @@
 ghost use Rattle.std.specs.Prelude.{◌≡◌, ◌≤◌, List, filter, Some, Err, IfOk, OnErr, IsSome};
-ghost use Rattle.std.specs.List.{list_any};
 ghost use Rattle.dbe_io.specs.Causes.{Rose};
 ghost use Rattle.dbe_cond.specs.Condition.{condition_of};
 ghost use Rattle.dbe_cond.specs.Meaning.{holds};
-ghost use Rattle.dbe_fields.specs.Plain.{is_computed};
 ghost use Rattle.dbe_table.specs.Rows.{Row, wanted_rows};
 ghost use Rattle.dbe_session.specs.declared.request.Request.TheVariants as r;
 ghost use Rattle.dbe_session.specs.Reply.{State, has_computed, handed_out, selects, selected_text, query_reply, searchable, reserved_in};
 ghost use Rattle.dbe_session.specs.Steps.{Replied, Kept, IsReply, IsGivenBy, IsOnly, only_of};
 
+use crate::computing::has_computed;
 use crate::texts::{cond_refusal, count_text, item_text, not_searchable};
 use crate::{Query, StepFault};
-use dbe_cond::{Cond, Wanted, first_name_with, holds, names_in, read};
+use dbe_cond::{Cond, Wanted, first_name_with, holds, read};
 use dbe_config::Config;
-use dbe_fields::{extended, is_computed};
-use dbe_num::{Memory, Text};
+use dbe_fields::extended;
+use dbe_num::Memory;
 use dbe_table::{Table, TableFault};
 use dbe_values::Item;
 use std::alloc::Global;
@@ -80,7 +79,7 @@ fn search_rows<T: Table>(
     ensures later { T.faults table.old ≤ T.faults table.new }
     ensures failed { result ≡ Err StepFault.Table → Rose (T.faults table.old) (T.faults table.new) }
 {
-    if has_computed(alloc, config, cond)? {
+    if has_computed(config, cond) {
         search_by(alloc, config, table, &Wanted::Every, cond, true)
     } else {
         search_by(alloc, config, table, only, cond, false)
@@ -110,25 +109,6 @@ fn search_by<T: Table>(
         Err(TableFault::Failed) => Err(StepFault::Table),
         Err(TableFault::Memory) => Err(StepFault::Memory),
     }
-}
-
-/// Whether a virtual field or a compound stands in a condition.
-pub(crate) fn has_computed(alloc: Global, config: &Config, cond: &Cond) -> Result<bool, Memory>
-    ensures { IfOk result (λ b. b ≡ has_computed config.now (condition_of cond.now)) }
-{
-    let names = names_in(alloc, cond)?;
-    Ok(is_one_computed(config, names.as_slice()))
-}
-
-fn is_one_computed(config: &Config, names: &[Text]) -> bool
-    ensures { result ≡ list_any (is_computed config.now) names.now }
-{
-    for name in names {
-        if is_computed(config, name) {
-            return true;
-        }
-    }
-    false
 }
 
 // Of the rows that the table handed out, those that the condition selects.

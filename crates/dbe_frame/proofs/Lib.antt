@@ -1,0 +1,12 @@
+pub mod Follow
+pub mod Formats
+pub mod Fronts
+pub mod Ties
+pub mod Spelled
+pub mod Headers
+pub mod Written
+pub mod Names
+pub mod Tags
+pub mod Entries
+pub mod Computed
+pub mod Loops

@@ -1,0 +1,9 @@
+pub mod Context
+pub mod Footer
+pub mod Format
+pub mod Header
+pub mod Keys
+pub mod Reading
+pub mod Record
+pub mod Signed
+pub mod Writing

@@ -1,0 +1,32 @@
+//! The frame of a sealed item: its header, the encryption context, the record text that is signed, and the footer.
+#![tactic(auto)]
+
+mod context;
+mod edks;
+mod fault;
+mod footer;
+mod header;
+mod laws;
+mod pairs;
+mod reading;
+mod record;
+mod signed;
+mod stop;
+mod writing;
+
+pub use context::context_bytes;
+pub use edks::Edks;
+pub use fault::FrameFault;
+pub use footer::read_footer;
+pub use header::Header;
+pub use laws::{canonical_order, fields_keep_rules, one_footer, one_header};
+pub use pairs::Pairs;
+pub use reading::read;
+pub use record::record_text;
+pub use signed::signed_names;
+pub use writing::write;
+
+#[cfg(test)]
+mod record_tests;
+#[cfg(test)]
+mod tests;
