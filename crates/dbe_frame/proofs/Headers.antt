@@ -62,6 +62,10 @@ pairs_found count bytes xs rest h e le =
 
 -- ---- data keys
 
+-- a context may be empty
+pub no_pairs : ArePairs []
+no_pairs = pairs_rule 0 [] refl (omega arith) tt tt
+
 edks_rule : (n : ℕ) (xs : List EdkParts) → length xs ≡ n → 1 ≤ n → n ≤ 8 → AllByRecursion IsEdk xs → AreEdks xs
 edks_rule n xs size some few each = record { some = omega (arith, size, some); few = omega (arith, size, few); each = All-from_recursion IsEdk xs each }
 

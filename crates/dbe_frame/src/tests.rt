@@ -8,7 +8,7 @@ use std::test::Fail;
 
 /// A header with the legend `se`, no context, and one data key with provider "n", info "k" and 108 bytes.
 const HEADER: &str =
-    "010011111111111111111111111111111111111111111111111111111111111111110002736500000100016e00016b006c3333333333333333333333333333333333333333333333333333333333333333333333333333333333333333333333333333333333333333333333333333333333333333333333333333333333333333333333333333333333333333333333333333333333333333333332222222222222222222222222222222222222222222222222222222222222222";
+    "010011111111111111111111111111111111111111111111111111111111111111110002736500000100016e00016b006c3333333333333333333333333333333333333333333333333333333333333333333333333333333333333333333333333333333333333333333333333333333333333333333333333333333333333333333333333333333333333333333333333333333333333333333333332222222222222222222222222222222222222222222222222222222222222222";
 
 /// The offsets at which its fields begin.
 const FIELDS: &str = "0 1 2 34 36 37 38 40 41 43 44 46 47 49 157";
@@ -338,21 +338,40 @@ pub(crate) fn short(rt: &impl Abort, alloc: Global, text: &[u8]) -> Result<Bytes
     Ok(text)
 }
 
-/// A header that is made of its parts has the bytes of the sample that its legend and its ciphertext stand in.
+fn no_pairs(alloc: Global) -> Pairs {
+    Pairs::from_vec(Vec::new(alloc))
+}
+
+fn one_edk(rt: &impl Abort, alloc: Global) -> Result<Edks, Fail> {
+    let provider = short(rt, alloc, b"n")?;
+    let info = short(rt, alloc, b"k")?;
+    let ciphertext = short(rt, alloc, &[0x33; 108])?;
+    let edk = dbe_rawring::Edk::new(provider, info, ciphertext);
+    Ok(Edks::from_vec(Vec::from_array(alloc, [edk])?))
+}
+
+/// A header that is made of its parts has the bytes of the sample without its legend.
 #[test]
 fn a_header_of_parts(rt: HostRuntime) -> Result<(), Fail> {
     let alloc = rt.alloc();
-    let provider = short(&rt, alloc, b"n")?;
-    let info = short(&rt, alloc, b"k")?;
-    let ciphertext = short(&rt, alloc, &[0x33; 108])?;
-    let edk = dbe_rawring::Edk::new(provider, info, ciphertext);
-    let edks = Edks::from_vec(Vec::from_array(alloc, [edk])?);
-    let context = Pairs::from_vec(Vec::new(alloc));
+    let edks = one_edk(&rt, alloc)?;
     let legend = Bytes::copy_of(alloc, &[])?;
-    let header = Header::new([0x11; 32], legend, context, edks, [0x22; 32]);
+    let header = Header::new([0x11; 32], legend, no_pairs(alloc), edks, [0x22; 32]);
     let bytes = write(alloc, &header)?;
     assert_eq!(rt; bytes.len(), 187);
     expect_same(&rt, alloc, &bytes)
+}
+
+#[test]
+fn lists_are_given_back(rt: HostRuntime) -> Result<(), Fail> {
+    let alloc = rt.alloc();
+    assert_eq!(rt; no_pairs(alloc).into_vec().len(), 0);
+    let edks = one_edk(&rt, alloc)?.into_vec();
+    assert_eq!(rt; edks.len(), 1);
+    for edk in &edks {
+        assert_eq!(rt; edk.info(), b"k".as_slice());
+    }
+    Ok(())
 }
 
 fn expect_footer(
