@@ -198,16 +198,23 @@ def places(data):
     return found
 
 
-# Something else of the same type, most often another text or number of the same data.
-def alike(choices, old, spots):
-    if choices.random() < 0.2:
-        return choices.choice(TEXTS)
+# Something else of the same type, most often what stands at a member of the same name, or another text or number of the same data.
+def alike(choices, old, spots, at):
+    form = choices.random()
     if isinstance(old, bool):
         return not old
     if isinstance(old, int):
         return choices.choice([0, 1, 8, 63, 64, -1])
-    found = [inside[at] for inside, at in spots if type(inside[at]) is type(old)]
-    return copy.deepcopy(choices.choice(found))
+    if isinstance(old, str) and form < 0.15:
+        return choices.choice(TEXTS)
+    same = [inside[name] for inside, name in spots if type(inside[name]) is type(old)]
+    named = [inside[name] for inside, name in spots if name == at and type(inside[name]) is type(old)]
+    return copy.deepcopy(choices.choice(named if form < 0.7 else same))
+
+
+# The objects whose members may have any name.
+def has_free_names(inside, data):
+    return inside is data.get("actions") or inside is data.get("context")
 
 
 def changed(choices, data):
@@ -216,16 +223,19 @@ def changed(choices, data):
         spots = places(data)
         inside, at = choices.choice(spots)
         form = choices.random()
-        if form < 0.4:
-            inside[at] = alike(choices, inside[at], spots)
-        elif form < 0.5:
+        if form < 0.6:
+            inside[at] = alike(choices, inside[at], spots, at)
+        elif form < 0.63:
             inside[at] = copy.deepcopy(choices.choice(OTHERS))
-        elif form < 0.65:
+        elif form < 0.69:
             del inside[at]
-        elif form < 0.75:
+        elif form < 0.72:
             inside[at] = copy.deepcopy(choices.choice(spots)[0])
         elif isinstance(inside, dict):
-            inside[choices.choice(TEXTS)] = copy.deepcopy(inside[at])
+            if has_free_names(inside, data) or choices.random() < 0.1:
+                inside[choices.choice(TEXTS)] = copy.deepcopy(inside[at])
+            if choices.random() < 0.5 and has_free_names(inside, data):
+                del inside[at]
         else:
             for _ in range(choices.choice([1, 1, 1, 6, 14, 15, 16, 62, 64])):
                 inside.append(copy.deepcopy(inside[at]))
