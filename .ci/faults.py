@@ -1,0 +1,78 @@
+"""Runs a small script once for each call for memory, which is refused in turn, and once for each read and write, which fails in turn or
+moves a single byte.
+
+    .ci/faults.py PROGRAM
+
+Without memory the program ends as docs/REQUESTS.md says of it, a failed read or write likewise, and it has written the front of its replies;
+a single byte changes nothing. The first run that differs is printed, and the status is then 1.
+"""
+import json
+import os
+import shutil
+import subprocess
+import sys
+import tempfile
+
+CONFIG = {
+    "table": "t", "partition": {"name": "id", "type": "S"}, "sort": {"name": "n", "type": "N"},
+    "actions": {"email": "ENCRYPT_AND_SIGN", "state": "SIGN_ONLY", "town": "SIGN_ONLY", "tags": "SIGN_ONLY"},
+    "unsigned_prefix": ":", "recipients": [],
+    "virtual": [{"name": "domain", "parts": [{"from": "email", "steps": [["segment", "@", 1], ["lower"]]}]}],
+    "beacons": [{"name": "domain", "length": 10}],
+    "compounds": [{"name": "place", "split": ".", "parts": [
+        {"name": "st", "prefix": "S-", "kind": "signed", "from": "state"}, {"name": "tn", "prefix": "T-", "kind": "signed", "from": "town"}]}]}
+ANN = {
+    "id": {"S": "a"}, "n": {"N": "1"}, "email": {"S": "Ann@Example.COM"}, "state": {"S": "WA"}, "town": {"S": "Seattle"}, "tags": {"SS": ["b", "a"]},
+    ":more": {"M": {"x": {"L": [{"B": "AQ=="}, {"NULL": True}]}}}}
+SCRIPT = [
+    {"put": ANN}, {"put": {"id": {"S": "a"}, "n": {"N": "2"}, "state": {"S": "OR"}}}, {"put": {"id": {"S": "a"}, "n": {"N": "2"}, "other": {"S": "x"}}},
+    {"get": {"id": {"S": "a"}, "n": {"N": "1.0"}}}, {"check": {"id": {"S": "a"}, "n": {"N": "2"}}},
+    {"query": {
+        "condition": "state IN (:w, :o) AND NOT n BETWEEN :one AND :one OR begins_with(#t, :w)", "names": {"#t": "town"},
+        "values": {":w": {"S": "WA"}, ":o": {"S": "OR"}, ":one": {"N": "1"}}}},
+    {"query": {"condition": "domain = :d OR place = :p", "values": {":d": {"S": "example.com"}, ":p": {"S": "S-WA.T-Seattle"}}}},
+    {"explain": {"condition": "state = :w AND attribute_exists(tags)", "values": {":w": {"S": "WA"}}}}, {"query": {"condition": "state = "}}, "none"]
+ENDS = {"FAIL_MEMORY": ["dbe: memory\n"], "FAIL": ["dbe: read\n", "dbe: write\n"], "SHORT": []}
+CODES = {"": 0, "dbe: memory\n": 10, "dbe: read\n": 4, "dbe: write\n": 5}
+
+
+def main(program):
+    folder = tempfile.mkdtemp()
+    try:
+        with open(folder + "/dbe.json", "w") as config:
+            json.dump(CONFIG, config)
+        before = os.path.join(folder, "faults.so")
+        source = os.path.join(os.path.dirname(os.path.abspath(__file__)), "faults.c")
+        subprocess.run(["cc", "-shared", "-fPIC", "-O1", "-o", before, source, "-ldl"], check=True)
+        script = "".join(json.dumps(line) + "\n" for line in SCRIPT).encode()
+
+        def run(**which):
+            told = {name: str(number) for name, number in which.items()}
+            done = subprocess.run([program], input=script, cwd=folder, env={"LD_PRELOAD": before, **told}, capture_output=True, check=False)
+            return done.returncode, done.stdout, done.stderr.decode()
+
+        code, whole, said = run(COUNT=1)
+        memory_calls, calls = map(int, said.split())
+        if code != 0 or memory_calls < 100 or calls < 10 or run() != (0, whole, ""):
+            print("the script does not run as it should:", code, said)
+            return 1
+        counts = []
+        for which, number in (("FAIL_MEMORY", memory_calls), ("FAIL", calls), ("SHORT", calls)):
+            ended = 0
+            for at in range(1, number + 1):
+                code, replies, said = run(**{which: at})
+                unchanged = (code, replies, said) == (0, whole, "")
+                ends = said in ENDS[which] and code == CODES[said] and whole.startswith(replies)
+                if not ends and not (unchanged and which != "FAIL"):
+                    print(f"{which} at {at} of {number}: code {code}, {said!r}, {replies[-200:]!r}")
+                    return 1
+                ended += ends
+            counts.append(f"{ended} of {number}")
+        print(f"ended by want of memory: {counts[0]} calls; by a failed read or write: {counts[1]}; by a single byte moved: {counts[2]}")
+        return 0
+    finally:
+        shutil.rmtree(folder)
+
+
+if __name__ == "__main__":
+    sys.exit(main(os.path.abspath(sys.argv[1])))
