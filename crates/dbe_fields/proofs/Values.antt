@@ -13,7 +13,7 @@ use Rattle.dbe_config.specs.declared.compound.Compound.{Compound}
 use Rattle.dbe_config.specs.declared.virtual_field.Virtual.{Virtual}
 use Rattle.dbe_fields.specs.Virtuals.{virtual_named, virtual_or_attribute}
 use Rattle.dbe_fields.specs.Compounds.{compound_named}
-use Rattle.dbe_fields.specs.Plain.{is_computed, compound_or_field, plain}
+use Rattle.dbe_fields.specs.Plain.{is_computed, compound_or_field, plain, plain_among}
 use Rattle.dbe_fields.specs.Extended.{with_value, uncomputed, computed_names, extended}
 
 -- ---- a put
@@ -192,3 +192,14 @@ computed_by s row name (Some v) is true taken =
 pub value-extended : (s : Setting) (row : List (List ℕ × AttrValue)) (name : List ℕ) → value_at name (extended s row) ≡ plain s name row
 unfolding extended
 value-extended s row name = computed_by s row name (plain s name row) refl (is_computed s name) refl
+
+-- ---- an item of the values of some names
+
+among_by : (names : List (List ℕ)) (s : Setting) (row : List (List ℕ × AttrValue)) (name : List ℕ) (o : Option AttrValue) → plain s name row ≡ o → (b : Bool) → is_among name names ≡ b
+    → value_at name (fold (λ r m. with_value m (plain s m row) r) [] names) ≡ (if b then o else None)
+among_by names s row name o is false apart = puts_apart (λ m. plain s m row) name names [] apart
+among_by names s row name None is true among = puts_none (λ m. plain s m row) name names [] is
+among_by names s row name (Some v) is true among = puts_some (λ m. plain s m row) name names v [] is among
+
+pub value-among : (names : List (List ℕ)) (s : Setting) (row : List (List ℕ × AttrValue)) (name : List ℕ) → value_at name (fold (λ r m. with_value m (plain s m row) r) [] names) ≡ plain_among names s name row
+value-among names s row name = among_by names s row name (plain s name row) refl (is_among name names) refl

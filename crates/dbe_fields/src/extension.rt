@@ -1,9 +1,10 @@
-ghost use Rattle.std.specs.Prelude.{◌≡◌, true, not, IfOk, OnOk, filter, fold};
-ghost use Rattle.dbe_values.specs.Attributes.{is_name};
+ghost use Rattle.std.specs.Prelude.{◌≡◌, ℕ, List, true, false, not, IfOk, OnOk, filter, fold};
+ghost use Rattle.dbe_values.specs.Attributes.{is_name, value_at};
 ghost use Rattle.dbe_config.specs.Rules.{is_among, compound_names, virtual_names};
-ghost use Rattle.dbe_fields.specs.Plain.{plain, is_computed};
+ghost use Rattle.dbe_fields.specs.Plain.{plain, plain_among, is_computed};
 ghost use Rattle.dbe_fields.specs.Extended.{extended, with_value};
 
+use crate::computed::is_computed;
 use crate::value::computed_text;
 use dbe_config::{Compound, Config, Virtual};
 use dbe_num::{Memory, Text};
@@ -20,6 +21,59 @@ pub fn extended(alloc: Global, config: &Config, item: &Item) -> Result<Item, Mem
     put_compounds(alloc, config, item, &mut target)?;
     put_virtuals(alloc, config, item, &mut target)?;
     Ok(target)
+}
+
+/// An item that has the values of these names over an item, and no other name. A name whose value is absent is absent.
+pub fn values_of(
+    alloc: Global,
+    config: &Config,
+    names: &[Text],
+    item: &Item,
+) -> Result<Item, Memory>
+    ensures { IfOk result (λ i. (name : List ℕ) → value_at name i ≡ plain_among names.now config.now name item.now) }
+{
+    let mut target = Item::new(alloc);
+    for name in names {
+        put_value(alloc, config, name, item, &mut target)?;
+    }
+    Ok(target)
+}
+
+fn put_value(
+    alloc: Global,
+    config: &Config,
+    name: &Text,
+    item: &Item,
+    target: &mut Item,
+) -> Result<(), Memory>
+    ensures { OnOk result (target.new ≡ with_value name.now (plain config.now name.now item.now) target.old) }
+{
+    if is_computed(config, name) {
+        config.keeps_bounds();
+        put_computed(alloc, config, name, item, target)
+    } else {
+        put_attribute(alloc, config, name, item, target)
+    }
+}
+
+fn put_attribute(
+    alloc: Global,
+    config: &Config,
+    name: &Text,
+    item: &Item,
+    target: &mut Item,
+) -> Result<(), Memory>
+    requires { is_computed config.now name.now ≡ false }
+    ensures { OnOk result (target.new ≡ with_value name.now (plain config.now name.now item.now) target.old) }
+{
+    item.is_lawful();
+    match item.get(name.as_str()) {
+        Some(value) => {
+            target.put(name.copy(alloc)?, value.copy(alloc)?)?;
+            Ok(())
+        }
+        None => Ok(()),
+    }
 }
 
 fn remove_compounds(compounds: &[Compound], target: &mut Item)

@@ -17,7 +17,7 @@ mod value;
 mod virtuals;
 
 pub use computed::is_computed;
-pub use extension::extended;
+pub use extension::{extended, values_of};
 pub use laws::{attributes_are_plain, extended_has_plain_values};
 pub use split::{SplitAt, split_fault};
 pub use value::value_of;

@@ -1,5 +1,5 @@
 // What names are worth over items, by their texts.
-use crate::{extended, is_computed, split_fault, value_of};
+use crate::{extended, is_computed, split_fault, value_of, values_of};
 use dbe_config::Config;
 use dbe_num::Text;
 use dbe_values::{AttrValue, Item, item_from_json, item_text, json_value};
@@ -24,6 +24,14 @@ fn item_of(rt: &impl Abort, alloc: Global, text: &str) -> Result<Item, Fail> {
     match item_from_json(alloc, &json) {
         Ok(item) => Ok(item),
         Err(_) => panic!(rt; "no item: {text}"),
+    }
+}
+
+// What stands before and behind a separator.
+fn parts_of<'a>(rt: &impl Abort, row: &'a str, separator: &str) -> (&'a str, &'a str) {
+    match row.split_once(separator) {
+        Some(parts) => parts,
+        None => panic!(rt; "no row: {row}"),
     }
 }
 
@@ -103,12 +111,8 @@ const STEPS: &str = r#"["upper"] ; `azAZ09{é ; [`AZAZ09{é]
 fn takes_steps(rt: HostRuntime) -> Result<(), Fail> {
     let alloc = rt.alloc();
     for row in STEPS.lines() {
-        let Some((steps, rest)) = row.split_once(" ; ") else {
-            return Ok(());
-        };
-        let Some((text, wanted)) = rest.split_once(" ; ") else {
-            return Ok(());
-        };
+        let (steps, rest) = parts_of(&rt, row, " ; ");
+        let (text, wanted) = parts_of(&rt, rest, " ; ");
         let front =
             r#"{"table":"t","partition":{"name":"id","type":"S"},"actions":{"a":"SIGN_ONLY"},"recipients":[],"virtual":[{"name":"v","parts":[{"from":"a","steps":["#;
         let config = format!(in alloc; "{front}{steps}]}}]}}]}}")?;
@@ -147,12 +151,8 @@ fn gives_values(rt: HostRuntime) -> Result<(), Fail> {
     let alloc = rt.alloc();
     let config = config_of(&rt, alloc, FIELDS);
     for row in VALUES.lines() {
-        let Some((name, rest)) = row.split_once(" ; ") else {
-            return Ok(());
-        };
-        let Some((item, wanted)) = rest.split_once(" ; ") else {
-            return Ok(());
-        };
+        let (name, rest) = parts_of(&rt, row, " ; ");
+        let (item, wanted) = parts_of(&rt, rest, " ; ");
         let found = value_at(&rt, alloc, &config, name, item)?;
         assert_eq!(rt; found.as_str(), wanted, "{row}");
     }
@@ -175,9 +175,7 @@ fn finds_splits(rt: HostRuntime) -> Result<(), Fail> {
     let alloc = rt.alloc();
     let config = config_of(&rt, alloc, FIELDS);
     for row in SPLITS.lines() {
-        let Some((item, wanted)) = row.split_once(" ; ") else {
-            return Ok(());
-        };
+        let (item, wanted) = parts_of(&rt, row, " ; ");
         let item = item_of(&rt, alloc, item)?;
         let found = match split_fault(alloc, &config, &item)? {
             Some(at) => {
@@ -203,11 +201,34 @@ fn extends_items(rt: HostRuntime) -> Result<(), Fail> {
     let alloc = rt.alloc();
     let config = config_of(&rt, alloc, FIELDS);
     for row in ITEMS.lines() {
-        let Some((item, wanted)) = row.split_once(" ; ") else {
-            return Ok(());
-        };
+        let (item, wanted) = parts_of(&rt, row, " ; ");
         let item = item_of(&rt, alloc, item)?;
         let found = item_text(alloc, &extended(alloc, &config, &item)?)?;
+        assert!(rt; found.as_slice() == wanted.as_bytes(), "{row}");
+    }
+    Ok(())
+}
+
+// Names, an item, and an item of the names' values.
+const NAMED: &str =
+    r#"state domain state ; {"domain":{"S":"held"},"email":{"S":"Ann@Example.COM"},"id":{"S":"1"},"state":{"S":"WA"}} ; {"domain":{"S":"example.com"},"state":{"S":"WA"}}
+who ; {"age":{"N":"41"},"town":{"S":"x"},"who":{"S":"held"}} ; {"who":{"S":"Tx/A41"}}
+place zip ; {"place":{"S":"held"},"town":{"S":"x"}} ; {}
+id age ; {"age":{"N":"1.50"},"id":{"S":"1"},"town":{"S":"x"}} ; {"age":{"N":"1.5"},"id":{"S":"1"}}"#;
+
+#[test]
+fn gives_items_of_values(rt: HostRuntime) -> Result<(), Fail> {
+    let alloc = rt.alloc();
+    let config = config_of(&rt, alloc, FIELDS);
+    for row in NAMED.lines() {
+        let (words, rest) = parts_of(&rt, row, " ; ");
+        let (item, wanted) = parts_of(&rt, rest, " ; ");
+        let mut names = Vec::new(alloc);
+        for name in words.split(' ') {
+            names.push(Text::copy_of(alloc, name)?)?;
+        }
+        let item = item_of(&rt, alloc, item)?;
+        let found = item_text(alloc, &values_of(alloc, &config, &names, &item)?)?;
         assert!(rt; found.as_slice() == wanted.as_bytes(), "{row}");
     }
     Ok(())
@@ -218,9 +239,7 @@ fn tells_computed_names(rt: HostRuntime) -> Result<(), Fail> {
     let alloc = rt.alloc();
     let config = config_of(&rt, alloc, FIELDS);
     for row in "domain yes\n:both yes\nplace yes\nwho yes\nstate no\nst no\nPlace no".lines() {
-        let Some((name, wanted)) = row.split_once(' ') else {
-            return Ok(());
-        };
+        let (name, wanted) = parts_of(&rt, row, " ");
         let found = is_computed(&config, &Text::copy_of(alloc, name)?);
         assert_eq!(rt; found, wanted == "yes", "{row}");
     }

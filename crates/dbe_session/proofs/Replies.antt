@@ -21,8 +21,8 @@ use Rattle.dbe_cond.specs.Reading.{Reads, Refuses}
 use Rattle.dbe_cond.specs.declared.fault.CondFault.{CondFault}
 use Rattle.dbe_session.specs.Requests.{request_of, request_in}
 use Rattle.dbe_session.specs.Texts.{put_text, split_text, put_refusal, cond_refusal}
-use Rattle.dbe_session.specs.Reply.{State, Turn, Reply, IsTurn, IsReadingOf, found_text, checked, row_of, put_reply, query_reply, explain_reply, searchable, reserved_in, asked_reply, reply_by, reply_to}
-use Rattle.dbe_session.specs.Steps.{Replied, Kept, Answered, Undone, IsReply, IsGivenBy}
+use Rattle.dbe_session.specs.Reply.{Environment, in_config, State, Turn, Reply, IsTurn, IsReadingOf, found_text, checked, row_of, put_reply, query_reply, explain_reply, searchable, reserved_in, asked_reply, reply_by, reply_to}
+use Rattle.dbe_session.specs.Steps.{Replied, Kept, Answered, Unanswered, IsReply, IsGivenBy}
 use Rattle.dbe_session.specs.declared.request.Query.{Query}
 use Rattle.dbe_session.specs.declared.request.Request.{Request}
 use Rattle.dbe_session.specs.declared.request.Request.TheVariants as r
@@ -36,48 +36,48 @@ some_at : {A : Type 0} (o : Option A) (P : A → Type 0) (a : A) → o ≡ Some 
 some_at o P a is h = let Q : Option _ → Type 0 = λ o. IfSome o P in subst Q is h
 
 -- a table's row for a key
-module _ (st : Setting) (s : State) (key : KeyValue) (begun : Option KeySchema) (rows rows' : Option (List Row)) (before after : ℕ) (found : Option Row) (is_begun : begun ≡ Some st.schema) (are : rows ≡ Some s.rows)
+module _ (e : Environment) (s : State) (key : KeyValue) (begun : Option KeySchema) (rows rows' : Option (List Row)) (before after : ℕ) (found : Option Row) (is_begun : begun ≡ Some e.config.schema) (are : rows ≡ Some s.rows)
     (answered : IfSome begun (λ schema. IfSome rows (λ b. found ≡ row_at schema (key_view key) b))) (same : rows' ≡ rows) (given : after ≡ risen before (found_count found)) where
-  found_is : found ≡ row_of st s key
-  found_is = some_at rows (λ b. found ≡ row_at st.schema (key_view key) b) s.rows are (some_at begun (λ schema. IfSome rows (λ b. found ≡ row_at schema (key_view key) b)) st.schema is_begun answered)
+  found_is : found ≡ row_of e s key
+  found_is = some_at rows (λ b. found ≡ row_at e.config.schema (key_view key) b) s.rows are (some_at begun (λ schema. IfSome rows (λ b. found ≡ row_at schema (key_view key) b)) e.config.schema is_begun answered)
 
-  given_is : after ≡ risen before (found_count (row_of st s key))
+  given_is : after ≡ risen before (found_count (row_of e s key))
   given_is = given ∙ ap (λ f. risen before (found_count f)) found_is
 
-  pub got : (text : List ℕ) → text ≡ found_text found → Replied st s (r.Get key) text rows' before after
+  pub got : (text : List ℕ) → text ≡ found_text found → Replied e s (r.Get key) text rows' before after
   got text is = record { reading = Err c.Memory; is_reading = tt; is_text = is ∙ ap found_text found_is; are_rows = same ∙ are; given = given_is }
 
-  pub looked : (text : List ℕ) → text ≡ checked found → Replied st s (r.Check key) text rows' before after
+  pub looked : (text : List ℕ) → text ≡ checked found → Replied e s (r.Check key) text rows' before after
   looked text is = record { reading = Err c.Memory; is_reading = tt; is_text = is ∙ ap checked found_is; are_rows = same ∙ are; given = given_is }
 
-  pub not_got : Kept st s (r.Get key) rows' before after
+  pub not_got : Kept e s (r.Get key) rows' before after
   not_got = record { same_rows = same ∙ are; given = inr (Err c.Memory, tt, given_is) }
 
-  pub not_looked : Kept st s (r.Check key) rows' before after
+  pub not_looked : Kept e s (r.Check key) rows' before after
   not_looked = record { same_rows = same ∙ are; given = inr (Err c.Memory, tt, given_is) }
 
 -- a put, by its fault and its split
-module _ (st : Setting) (s : State) (item : Row) where
-  put_by : (fault : Option PutFault) (split : Option (List ℕ × List ℕ)) → put_fault st item ≡ fault → split_at st item ≡ split → put_reply st s item (put_fault st item) (split_at st item) ≡ put_reply st s item fault split
-  put_by fault split fits whole = ap (λ f. put_reply st s item f (split_at st item)) fits ∙ ap (put_reply st s item fault) whole
+module _ (e : Environment) (s : State) (item : Row) where
+  put_by : (fault : Option PutFault) (split : Option (List ℕ × List ℕ)) → put_fault e.config item ≡ fault → split_at e.config item ≡ split → put_reply e s item (put_fault e.config item) (split_at e.config item) ≡ put_reply e s item fault split
+  put_by fault split fits whole = ap (λ f. put_reply e s item f (split_at e.config item)) fits ∙ ap (put_reply e s item fault) whole
 
   -- a put that was made
-  pub put_made : (begun : Option KeySchema) (rows rows' : Option (List Row)) (before after : ℕ) (text : List ℕ) → begun ≡ Some st.schema → rows ≡ Some s.rows → put_fault st item ≡ None → split_at st item ≡ None
-      → IfSome begun (λ schema. IfSome rows (λ b. rows' ≡ Some (put_row schema item b))) → after ≡ before → text ≡ put_text → Replied st s (r.Put item) text rows' before after
+  pub put_made : (begun : Option KeySchema) (rows rows' : Option (List Row)) (before after : ℕ) (text : List ℕ) → begun ≡ Some e.config.schema → rows ≡ Some s.rows → put_fault e.config item ≡ None → split_at e.config item ≡ None
+      → IfSome begun (λ schema. IfSome rows (λ b. rows' ≡ Some (put_row schema item b))) → after ≡ before → text ≡ put_text → Replied e s (r.Put item) text rows' before after
   put_made begun rows rows' before after text is_begun are fits whole answered given is =
       let reply = put_by None None fits whole in
       record {
         reading = Err c.Memory;
         is_reading = tt;
         is_text = is ∙ ap (λ (r : Reply). r.text) (sym reply);
-        are_rows = some_at rows (λ b. rows' ≡ Some (put_row st.schema item b)) s.rows are (some_at begun (λ schema. IfSome rows (λ b. rows' ≡ Some (put_row schema item b))) st.schema is_begun answered) ∙ ap (λ (r : Reply). Some r.state.rows) (sym reply);
+        are_rows = some_at rows (λ b. rows' ≡ Some (put_row e.config.schema item b)) s.rows are (some_at begun (λ schema. IfSome rows (λ b. rows' ≡ Some (put_row schema item b))) e.config.schema is_begun answered) ∙ ap (λ (r : Reply). Some r.state.rows) (sym reply);
         given = given ∙ sym (risen_none before) ∙ ap (λ (r : Reply). risen before r.given) (sym reply);
       }
 
   -- a put that is refused
-  pub put_refused : (rows : Option (List Row)) (count : ℕ) (fault : PutFault) (text : List ℕ) → rows ≡ Some s.rows → put_fault st item ≡ Some fault → text ≡ put_refusal fault → Replied st s (r.Put item) text rows count count
+  pub put_refused : (rows : Option (List Row)) (count : ℕ) (fault : PutFault) (text : List ℕ) → rows ≡ Some s.rows → put_fault e.config item ≡ Some fault → text ≡ put_refusal fault → Replied e s (r.Put item) text rows count count
   put_refused rows count fault text are refused is =
-      let reply = put_by (Some fault) (split_at st item) refused refl in
+      let reply = put_by (Some fault) (split_at e.config item) refused refl in
       record {
         reading = Err c.Memory;
         is_reading = tt;
@@ -86,7 +86,7 @@ module _ (st : Setting) (s : State) (item : Row) where
         given = sym (risen_none count) ∙ ap (λ (r : Reply). risen count r.given) (sym reply);
       }
 
-  pub put_split : (rows : Option (List Row)) (count : ℕ) (at : List ℕ × List ℕ) (text : List ℕ) → rows ≡ Some s.rows → put_fault st item ≡ None → Some at ≡ split_at st item → text ≡ split_text at → Replied st s (r.Put item) text rows count count
+  pub put_split : (rows : Option (List Row)) (count : ℕ) (at : List ℕ × List ℕ) (text : List ℕ) → rows ≡ Some s.rows → put_fault e.config item ≡ None → Some at ≡ split_at e.config item → text ≡ split_text at → Replied e s (r.Put item) text rows count count
   put_split rows count at text are fits split is =
       let reply = put_by None (Some at) fits (sym split) in
       record {
@@ -98,9 +98,9 @@ module _ (st : Setting) (s : State) (item : Row) where
       }
 
 -- a request that does not come to the table
-pub settled : (st : Setting) (s : State) (request : Request) (reading : Result Condition CondFault) (text : List ℕ) (rows : Option (List Row)) (count : ℕ) → rows ≡ Some s.rows → IsReadingOf request reading → text ≡ (reply_by st s request reading).text
-    → (reply_by st s request reading).state ≡ s → (reply_by st s request reading).given ≡ 0 → Replied st s request text rows count count
-settled st s request reading text rows count are is_reading is state given = record {
+pub settled : (e : Environment) (s : State) (request : Request) (reading : Result Condition CondFault) (text : List ℕ) (rows : Option (List Row)) (count : ℕ) → rows ≡ Some s.rows → IsReadingOf request reading → text ≡ (reply_by e s request reading).text
+    → (reply_by e s request reading).state ≡ s → (reply_by e s request reading).given ≡ 0 → Replied e s request text rows count count
+settled e s request reading text rows count are is_reading is state given = record {
   reading = reading;
   is_reading = is_reading;
   is_text = is;
@@ -108,9 +108,9 @@ settled st s request reading text rows count are is_reading is state given = rec
   given = sym (risen_none count) ∙ ap (risen count) (sym given);
 }
 
-pub plain_reply : (st : Setting) (s : State) (request : Request) (text : List ℕ) (rows : Option (List Row)) (count : ℕ) → rows ≡ Some s.rows → IsReadingOf request (Err c.Memory) → text ≡ (reply_by st s request (Err c.Memory)).text
-    → (reply_by st s request (Err c.Memory)).state ≡ s → (reply_by st s request (Err c.Memory)).given ≡ 0 → Replied st s request text rows count count
-plain_reply st s request = settled st s request (Err c.Memory)
+pub plain_reply : (e : Environment) (s : State) (request : Request) (text : List ℕ) (rows : Option (List Row)) (count : ℕ) → rows ≡ Some s.rows → IsReadingOf request (Err c.Memory) → text ≡ (reply_by e s request (Err c.Memory)).text
+    → (reply_by e s request (Err c.Memory)).state ≡ s → (reply_by e s request (Err c.Memory)).given ≡ 0 → Replied e s request text rows count count
+plain_reply e s request = settled e s request (Err c.Memory)
 
 -- a reply that leaves the rows, where no name is kept
 searchable_state : (s : State) (name : Option (List ℕ)) (reply : Reply) → reply.state ≡ s → (searchable s name reply).state ≡ s
@@ -122,43 +122,43 @@ asked_state s reply_for (Ok cond) is = searchable_state s (reserved_in cond) (re
 asked_state s reply_for (Err fault) is = refl
 
 -- a query whose condition was read
-module _ (st : Setting) (s : State) (q : Query) (cond : Condition) (rows rows' : Option (List Row)) (before after : ℕ) (reads : Reads q.text q.names q.values cond) (are : rows ≡ Some s.rows) (same : rows' ≡ rows) where
-  pub answered : (text : List ℕ) → IsReply (searchable s (reserved_in cond) (query_reply st s cond)) text before after → Replied st s (r.Query q) text rows' before after
+module _ (e : Environment) (s : State) (q : Query) (cond : Condition) (rows rows' : Option (List Row)) (before after : ℕ) (reads : Reads q.text q.names q.values cond) (are : rows ≡ Some s.rows) (same : rows' ≡ rows) where
+  pub answered : (text : List ℕ) → IsReply (searchable s (reserved_in cond) (query_reply e s cond)) text before after → Replied e s (r.Query q) text rows' before after
   answered text is = record {
     reading = Ok cond;
     is_reading = reads;
     is_text = is.is_text;
-    are_rows = same ∙ are ∙ ap (λ (t : State). Some t.rows) (sym (searchable_state s (reserved_in cond) (query_reply st s cond) refl));
+    are_rows = same ∙ are ∙ ap (λ (t : State). Some t.rows) (sym (searchable_state s (reserved_in cond) (query_reply e s cond) refl));
     given = is.given;
   }
 
-  pub not_answered : IsGivenBy (searchable s (reserved_in cond) (query_reply st s cond)) before after → Kept st s (r.Query q) rows' before after
+  pub not_answered : IsGivenBy (searchable s (reserved_in cond) (query_reply e s cond)) before after → Kept e s (r.Query q) rows' before after
   not_answered (inl given) = record { same_rows = same ∙ are; given = inl given }
   not_answered (inr given) = record { same_rows = same ∙ are; given = inr (Ok cond, reads, given) }
 
 -- a query whose condition is refused
-pub cond_refused : (st : Setting) (s : State) (q : Query) (fault : CondFault) (text : List ℕ) (rows : Option (List Row)) (count : ℕ) → fault ≢ c.Memory → Refuses q.text q.names q.values fault → rows ≡ Some s.rows → text ≡ cond_refusal fault → Replied st s (r.Query q) text rows count count
-cond_refused st s q fault text rows count told refuses are is = settled st s (r.Query q) (Err fault) text rows count are (told, refuses) is refl refl
+pub cond_refused : (e : Environment) (s : State) (q : Query) (fault : CondFault) (text : List ℕ) (rows : Option (List Row)) (count : ℕ) → fault ≢ c.Memory → Refuses q.text q.names q.values fault → rows ≡ Some s.rows → text ≡ cond_refusal fault → Replied e s (r.Query q) text rows count count
+cond_refused e s q fault text rows count told refuses are is = settled e s (r.Query q) (Err fault) text rows count are (told, refuses) is refl refl
 
 -- an explain
-explain_given : (st : Setting) (s : State) (cond : Condition) (name : Option (List ℕ)) → (searchable s name (explain_reply st s cond)).given ≡ 0
-explain_given st s cond None = refl
-explain_given st s cond (Some name) = refl
+explain_given : (e : Environment) (s : State) (cond : Condition) (name : Option (List ℕ)) → (searchable s name (explain_reply e s cond)).given ≡ 0
+explain_given e s cond None = refl
+explain_given e s cond (Some name) = refl
 
-pub explained : (st : Setting) (s : State) (q : Query) (cond : Condition) (text : List ℕ) (rows : Option (List Row)) (count : ℕ) → Reads q.text q.names q.values cond → rows ≡ Some s.rows → text ≡ (searchable s (reserved_in cond) (explain_reply st s cond)).text
-    → Replied st s (r.Explain q) text rows count count
-explained st s q cond text rows count reads are is = settled st s (r.Explain q) (Ok cond) text rows count are reads is (searchable_state s (reserved_in cond) (explain_reply st s cond) refl) (explain_given st s cond (reserved_in cond))
+pub explained : (e : Environment) (s : State) (q : Query) (cond : Condition) (text : List ℕ) (rows : Option (List Row)) (count : ℕ) → Reads q.text q.names q.values cond → rows ≡ Some s.rows → text ≡ (searchable s (reserved_in cond) (explain_reply e s cond)).text
+    → Replied e s (r.Explain q) text rows count count
+explained e s q cond text rows count reads are is = settled e s (r.Explain q) (Ok cond) text rows count are reads is (searchable_state s (reserved_in cond) (explain_reply e s cond) refl) (explain_given e s cond (reserved_in cond))
 
-pub explain_refused : (st : Setting) (s : State) (q : Query) (fault : CondFault) (text : List ℕ) (rows : Option (List Row)) (count : ℕ) → fault ≢ c.Memory → Refuses q.text q.names q.values fault → rows ≡ Some s.rows → text ≡ cond_refusal fault
-    → Replied st s (r.Explain q) text rows count count
-explain_refused st s q fault text rows count told refuses are is = settled st s (r.Explain q) (Err fault) text rows count are (told, refuses) is refl refl
+pub explain_refused : (e : Environment) (s : State) (q : Query) (fault : CondFault) (text : List ℕ) (rows : Option (List Row)) (count : ℕ) → fault ≢ c.Memory → Refuses q.text q.names q.values fault → rows ≡ Some s.rows → text ≡ cond_refusal fault
+    → Replied e s (r.Explain q) text rows count count
+explain_refused e s q fault text rows count told refuses are is = settled e s (r.Explain q) (Err fault) text rows count are (told, refuses) is refl refl
 
 -- ---- lines
 
 -- a line that is not empty gets the reply to its request
-pub line_replied : (st : Setting) (s : State) (line text : List ℕ) (rows : Option (List Row)) (before after : ℕ) → line ≢ [] → Replied st s (request_of st.schema line) text rows before after → Answered st s line text rows before after
-line_replied st s [] text rows before after some p = absurd (some refl)
-line_replied st s (b ∷ bytes) text rows before after some p = record {
+pub line_replied : (e : Environment) (s : State) (line text : List ℕ) (rows : Option (List Row)) (before after : ℕ) → line ≢ [] → Replied e s (request_of e.config.schema line) text rows before after → Answered e s line text rows before after
+line_replied e s [] text rows before after some p = absurd (some refl)
+line_replied e s (b ∷ bytes) text rows before after some p = record {
   turn = record { line = b ∷ bytes; reading = p.reading };
   is_line = refl;
   is_turn = p.is_reading;
@@ -167,18 +167,18 @@ line_replied st s (b ∷ bytes) text rows before after some p = record {
   given = p.given;
 }
 
-given_undone : (st : Setting) (s : State) (b : ℕ) (bytes : List ℕ) (before after : ℕ) → (after ≡ before) ⊎ ((reading : Result Condition CondFault) × IsReadingOf (request_of st.schema (b ∷ bytes)) reading × (after ≡ risen before (reply_by st s (request_of st.schema (b ∷ bytes)) reading).given))
-    → (after ≡ before) ⊎ ((turn : Turn) × (turn.line ≡ b ∷ bytes) × IsTurn st turn × (after ≡ risen before (reply_to st s turn).given))
-given_undone st s b bytes before after (inl same) = inl same
-given_undone st s b bytes before after (inr p) = inr (record { line = b ∷ bytes; reading = p.0 }, refl, p.1, p.2)
+given_kept : (e : Environment) (s : State) (b : ℕ) (bytes : List ℕ) (before after : ℕ) → (after ≡ before) ⊎ ((reading : Result Condition CondFault) × IsReadingOf (request_of e.config.schema (b ∷ bytes)) reading × (after ≡ risen before (reply_by e s (request_of e.config.schema (b ∷ bytes)) reading).given))
+    → (after ≡ before) ⊎ ((turn : Turn) × (turn.line ≡ b ∷ bytes) × IsTurn e turn × (after ≡ risen before (reply_to e s turn).given))
+given_kept e s b bytes before after (inl same) = inl same
+given_kept e s b bytes before after (inr p) = inr (record { line = b ∷ bytes; reading = p.0 }, refl, p.1, p.2)
 
-pub line_undone : (st : Setting) (s : State) (line : List ℕ) (rows : Option (List Row)) (before after : ℕ) → line ≢ [] → Kept st s (request_of st.schema line) rows before after → Undone st s line rows before after
-line_undone st s [] rows before after some p = absurd (some refl)
-line_undone st s (b ∷ bytes) rows before after some p = record { are_rows = inl p.same_rows; given = given_undone st s b bytes before after p.given }
+pub line_kept : (e : Environment) (s : State) (line : List ℕ) (rows : Option (List Row)) (before after : ℕ) → line ≢ [] → Kept e s (request_of e.config.schema line) rows before after → Unanswered e s line rows before after
+line_kept e s [] rows before after some p = absurd (some refl)
+line_kept e s (b ∷ bytes) rows before after some p = record { same_rows = p.same_rows; given = given_kept e s b bytes before after p.given }
 
 -- nothing was done
-pub nothing_undone : (st : Setting) (s : State) (line : List ℕ) (rows : Option (List Row)) (count : ℕ) → rows ≡ Some s.rows → Undone st s line rows count count
-nothing_undone st s line rows count are = record { are_rows = inl are; given = inl refl }
+pub nothing_done : (e : Environment) (s : State) (line : List ℕ) (rows : Option (List Row)) (count : ℕ) → rows ≡ Some s.rows → Unanswered e s line rows count count
+nothing_done e s line rows count are = record { same_rows = are; given = inl refl }
 
 -- ---- an empty line
 
@@ -196,13 +196,13 @@ no_json = none_if (is_utf8 []) (read []) nothing_read
 pub no_request : (schema : KeySchema) → request_of schema [] ≡ r.NotJson
 no_request schema = ap (request_in schema) no_json
 
-pub empty_line : (st : Setting) (s : State) (line text : List ℕ) (rows : Option (List Row)) (count : ℕ) → line ≡ [] → text ≡ [] → rows ≡ Some s.rows → Answered st s line text rows count count
-empty_line st s line text rows count empty is are =
+pub empty_line : (e : Environment) (s : State) (line text : List ℕ) (rows : Option (List Row)) (count : ℕ) → line ≡ [] → text ≡ [] → rows ≡ Some s.rows → Answered e s line text rows count count
+empty_line e s line text rows count empty is are =
     let P : Request → Type 0 = λ request. IsReadingOf request (Err c.Memory) in
     record {
       turn = record { line = []; reading = Err c.Memory };
       is_line = sym empty;
-      is_turn = subst P (sym (no_request st.schema)) tt;
+      is_turn = subst P (sym (no_request e.config.schema)) tt;
       is_text = is;
       are_rows = are;
       given = sym (risen_none count);
@@ -221,18 +221,19 @@ pub then_err : {A E : Type 0} (answer : Result A E) (P Q : Type 0) → (P → Q)
 then_err (Ok a) P Q f p = tt
 then_err (Err e) P Q f p = f p
 
--- a line whose request was read, over the same setting
-pub asked_replied : (st st' : Setting) (s : State) (line text : List ℕ) (request : Request) (rows : Option (List Row)) (before after : ℕ) → st' ≡ st → request ≡ request_of st'.schema line → line ≢ [] → Replied st' s request text rows before after → Answered st s line text rows before after
-asked_replied st st' s line text request rows before after same is some p =
-    let P : Request → Type 0 = λ request. Replied st' s request text rows before after in
-    let Q : Setting → Type 0 = λ st. Answered st s line text rows before after in
-    subst Q same (line_replied st' s line text rows before after some (subst P is p))
+-- a line whose request was read, over the same environment
+pub asked_replied : (e : Environment) (st : Setting) (s : State) (line text : List ℕ) (request : Request) (rows : Option (List Row)) (before after : ℕ) → in_config st ≡ e → request ≡ request_of st.schema line → line ≢ [] → Replied (in_config st) s request text rows before after
+    → Answered e s line text rows before after
+asked_replied e st s line text request rows before after same is some p =
+    let P : Request → Type 0 = λ request. Replied (in_config st) s request text rows before after in
+    let Q : Environment → Type 0 = λ e. Answered e s line text rows before after in
+    subst Q same (line_replied (in_config st) s line text rows before after some (subst P is p))
 
-pub asked_undone : (st st' : Setting) (s : State) (line : List ℕ) (request : Request) (rows : Option (List Row)) (before after : ℕ) → st' ≡ st → request ≡ request_of st'.schema line → line ≢ [] → Kept st' s request rows before after → Undone st s line rows before after
-asked_undone st st' s line request rows before after same is some p =
-    let P : Request → Type 0 = λ request. Kept st' s request rows before after in
-    let Q : Setting → Type 0 = λ st. Undone st s line rows before after in
-    subst Q same (line_undone st' s line rows before after some (subst P is p))
+pub not_replied : (e : Environment) (st : Setting) (s : State) (line : List ℕ) (request : Request) (rows : Option (List Row)) (before after : ℕ) → in_config st ≡ e → request ≡ request_of st.schema line → line ≢ [] → Kept (in_config st) s request rows before after → Unanswered e s line rows before after
+not_replied e st s line request rows before after same is some p =
+    let P : Request → Type 0 = λ request. Kept (in_config st) s request rows before after in
+    let Q : Environment → Type 0 = λ e. Unanswered e s line rows before after in
+    subst Q same (line_kept (in_config st) s line rows before after some (subst P is p))
 
 not_zero : (n : ℕ) → false ≡ (suc n == 0)
 not_zero n = grind (arith, nat_tests)

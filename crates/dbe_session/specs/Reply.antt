@@ -23,6 +23,13 @@ use Rattle.dbe_session.specs.declared.request.Query.{Query}
 use Rattle.dbe_session.specs.declared.request.Request.{Request}
 use Rattle.dbe_session.specs.declared.request.Request.TheVariants as r
 
+-- what is fixed in a run
+pub record Environment : Type 0 where
+  pub config : Setting
+
+abbrev pub in_config : Setting → Environment
+in_config c = record { config = c }
+
 -- what passes from line to line
 pub record State : Type 0 where
   pub rows : List Row
@@ -56,18 +63,18 @@ IsReadingOf (r.Get key) reading = ⊤
 IsReadingOf (r.Check key) reading = ⊤
 
 -- the reading of a turn is that of its line
-abbrev pub IsTurn : Setting → Turn → Type 0
-IsTurn s turn = IsReadingOf (request_of s.schema turn.line) turn.reading
+abbrev pub IsTurn : Environment → Turn → Type 0
+IsTurn e turn = IsReadingOf (request_of e.config.schema turn.line) turn.reading
 
 -- a reply that leaves the rows
 abbrev pub answer : State → List ℕ → ℕ → Reply
 answer s text given = record { text = text; state = s; given = given }
 
 -- an item is put, or refused
-abbrev pub put_reply : Setting → State → Row → Option PutFault → Option (List ℕ × List ℕ) → Reply
-put_reply st s item (Some fault) split = answer s (put_refusal fault) 0
-put_reply st s item None (Some at) = answer s (split_text at) 0
-put_reply st s item None None = record { text = put_text; state = record { rows = put_row st.schema item s.rows }; given = 0 }
+abbrev pub put_reply : Environment → State → Row → Option PutFault → Option (List ℕ × List ℕ) → Reply
+put_reply e s item (Some fault) split = answer s (put_refusal fault) 0
+put_reply e s item None (Some at) = answer s (split_text at) 0
+put_reply e s item None None = record { text = put_text; state = record { rows = put_row e.config.schema item s.rows }; given = 0 }
 
 abbrev pub found_text : Option Row → List ℕ
 found_text None = none_text
@@ -77,8 +84,9 @@ abbrev pub checked : Option Row → List ℕ
 checked None = none_text
 checked (Some row) = checked_text
 
-abbrev pub row_of : Setting → State → KeyValue → Option Row
-row_of st s key = row_at st.schema (key_view key) s.rows
+-- the row of a key
+abbrev pub row_of : Environment → State → KeyValue → Option Row
+row_of e s key = row_at e.config.schema (key_view key) s.rows
 
 -- whether a virtual field or a compound stands in a condition
 abbrev pub has_computed : Setting → Condition → Bool
@@ -89,22 +97,22 @@ abbrev pub selects : Setting → Condition → Row → Bool
 selects st cond item = holds cond (extended st item)
 
 -- the rows that the table is asked for: every row where a virtual field or a compound stands in the condition, else those of which it holds
-abbrev pub handed_out : Setting → Condition → List Row → List Row
-handed_out st cond rows = if has_computed st cond then rows else filter (holds cond) rows
+abbrev pub handed_out : Environment → State → Condition → List Row
+handed_out e s cond = if has_computed e.config cond then s.rows else filter (holds cond) s.rows
 
 -- of the rows that the table handed out, those that the condition selects
 abbrev pub selected_text : Setting → Condition → List Row → List ℕ
 selected_text st cond found = select_text (filter (selects st cond) found) (length found)
 
-abbrev pub query_reply : Setting → State → Condition → Reply
-query_reply st s cond = answer s (selected_text st cond (handed_out st cond s.rows)) (length (handed_out st cond s.rows))
+abbrev pub query_reply : Environment → State → Condition → Reply
+query_reply e s cond = answer s (selected_text e.config cond (handed_out e s cond)) (length (handed_out e s cond))
 
 -- what the table would be asked for: every row, or those of which the condition holds
 abbrev pub explained_text : Setting → Condition → List ℕ
 explained_text st cond = if has_computed st cond then every_text else condition_text (printed_text cond) (printed_names cond) (printed_values cond)
 
-abbrev pub explain_reply : Setting → State → Condition → Reply
-explain_reply st s cond = answer s (explained_text st cond) 0
+abbrev pub explain_reply : Environment → State → Condition → Reply
+explain_reply e s cond = answer s (explained_text e.config cond) 0
 
 -- the first name of a condition that dbe keeps for itself
 abbrev pub reserved_in : Condition → Option (List ℕ)
@@ -121,40 +129,40 @@ asked_reply s reply_for (Err fault) = answer s (cond_refusal fault) 0
 asked_reply s reply_for (Ok cond) = searchable s (reserved_in cond) (reply_for cond)
 
 -- the reply to a request, whose query reads so
-abbrev pub reply_by : Setting → State → Request → Result Condition CondFault → Reply
-reply_by st s r.NotJson reading = answer s (refused_text (codes "json")) 0
-reply_by st s r.Shape reading = answer s (refused_text (codes "shape")) 0
-reply_by st s r.NotBuilt reading = answer s (refused_text (codes "not built")) 0
-reply_by st s (r.Value name why) reading = answer s (refused_name_for (codes "value") (value_word why) name) 0
-reply_by st s (r.Key name) reading = answer s (refused_name (codes "key") name) 0
-reply_by st s (r.Put item) reading = put_reply st s item (put_fault st item) (split_at st item)
-reply_by st s (r.Get key) reading = answer s (found_text (row_of st s key)) (found_count (row_of st s key))
-reply_by st s (r.Check key) reading = answer s (checked (row_of st s key)) (found_count (row_of st s key))
-reply_by st s (r.Query q) reading = asked_reply s (query_reply st s) reading
-reply_by st s (r.Explain q) reading = asked_reply s (explain_reply st s) reading
+abbrev pub reply_by : Environment → State → Request → Result Condition CondFault → Reply
+reply_by e s r.NotJson reading = answer s (refused_text (codes "json")) 0
+reply_by e s r.Shape reading = answer s (refused_text (codes "shape")) 0
+reply_by e s r.NotBuilt reading = answer s (refused_text (codes "not built")) 0
+reply_by e s (r.Value name why) reading = answer s (refused_name_for (codes "value") (value_word why) name) 0
+reply_by e s (r.Key name) reading = answer s (refused_name (codes "key") name) 0
+reply_by e s (r.Put item) reading = put_reply e s item (put_fault e.config item) (split_at e.config item)
+reply_by e s (r.Get key) reading = answer s (found_text (row_of e s key)) (found_count (row_of e s key))
+reply_by e s (r.Check key) reading = answer s (checked (row_of e s key)) (found_count (row_of e s key))
+reply_by e s (r.Query q) reading = asked_reply s (query_reply e s) reading
+reply_by e s (r.Explain q) reading = asked_reply s (explain_reply e s) reading
 
 -- an empty line has no reply
-abbrev pub reply_in : Setting → State → List ℕ → Result Condition CondFault → Reply
-reply_in st s [] reading = answer s [] 0
-reply_in st s (b ∷ bytes) reading = reply_by st s (request_of st.schema (b ∷ bytes)) reading
+abbrev pub reply_in : Environment → State → List ℕ → Result Condition CondFault → Reply
+reply_in e s [] reading = answer s [] 0
+reply_in e s (b ∷ bytes) reading = reply_by e s (request_of e.config.schema (b ∷ bytes)) reading
 
 -- the reply to a turn
-abbrev pub reply_to : Setting → State → Turn → Reply
-reply_to st s turn = reply_in st s turn.line turn.reading
+abbrev pub reply_to : Environment → State → Turn → Reply
+reply_to e s turn = reply_in e s turn.line turn.reading
 
 -- the replies to turns, one after another
-abbrev pub run : Setting → State → List Turn → Reply
-run st s [] = answer s [] 0
-run st s (turn ∷ turns) = record {
-  text = (reply_to st s turn).text ++ (run st (reply_to st s turn).state turns).text;
-  state = (run st (reply_to st s turn).state turns).state;
-  given = (reply_to st s turn).given + (run st (reply_to st s turn).state turns).given;
+abbrev pub run : Environment → State → List Turn → Reply
+run e s [] = answer s [] 0
+run e s (turn ∷ turns) = record {
+  text = (reply_to e s turn).text ++ (run e (reply_to e s turn).state turns).text;
+  state = (run e (reply_to e s turn).state turns).state;
+  given = (reply_to e s turn).given + (run e (reply_to e s turn).state turns).given;
 }
 
 -- the reply to each turn
-abbrev pub replies_in : Setting → State → List Turn → List (List ℕ)
-replies_in st s [] = []
-replies_in st s (turn ∷ turns) = (reply_to st s turn).text ∷ replies_in st (reply_to st s turn).state turns
+abbrev pub replies_in : Environment → State → List Turn → List (List ℕ)
+replies_in e s [] = []
+replies_in e s (turn ∷ turns) = (reply_to e s turn).text ∷ replies_in e (reply_to e s turn).state turns
 
 abbrev pub lines_in : List Turn → List (List ℕ)
 lines_in turns = map (λ t. t.line) turns

@@ -1,25 +1,27 @@
 -- What one line does to the table.
-use Rattle.std.specs.Prelude.{◌≡◌, ◌⊎◌, ℕ, true, List, Some, Result, ⊤}
+use Rattle.std.specs.Prelude.{◌≡◌, ◌⊎◌, ℕ, true, false, List, Some, None, Result, ⊤}
 use Rattle.std.specs.declared.option.Option.{Option}
 use Rattle.dbe_config.specs.Setting.{Setting}
+use Rattle.dbe_config.specs.Rules.{is_among}
 use Rattle.dbe_cond.specs.Condition.{Condition, condition_of, and, none}
+use Rattle.dbe_cond.specs.Names.{names_of}
 use Rattle.dbe_cond.specs.declared.wanted.Wanted.{Wanted}
 use Rattle.dbe_cond.specs.declared.wanted.Wanted.TheVariants as w
 use Rattle.dbe_cond.specs.declared.fault.CondFault.{CondFault}
 use Rattle.dbe_table.specs.Rows.{Row, risen}
-use Rattle.dbe_session.specs.Reply.{State, Turn, Reply, IsTurn, IsReadingOf, reply_by, reply_to}
+use Rattle.dbe_session.specs.Reply.{Environment, State, Turn, Reply, IsTurn, IsReadingOf, has_computed, reply_by, reply_to}
 use Rattle.dbe_session.specs.declared.request.Request.{Request}
 use Rattle.dbe_session.specs.declared.request.Request.TheVariants as r
 use Rattle.dbe_values.specs.Keys.{is_lawful_key}
 use Rattle.dbe_values.specs.KeyValues.{key_view}
 
 -- A request got its reply: the rows are those after it, and so many were handed out more.
-pub record Replied (st : Setting) (s : State) (request : Request) (text : List ℕ) (rows : Option (List Row)) (before after : ℕ) : Type 0 where
+pub record Replied (e : Environment) (s : State) (request : Request) (text : List ℕ) (rows : Option (List Row)) (before after : ℕ) : Type 0 where
   pub reading : Result Condition CondFault
   pub is_reading : IsReadingOf request reading
-  pub is_text : text ≡ (reply_by st s request reading).text
-  pub are_rows : rows ≡ Some (reply_by st s request reading).state.rows
-  pub given : after ≡ risen before (reply_by st s request reading).given
+  pub is_text : text ≡ (reply_by e s request reading).text
+  pub are_rows : rows ≡ Some (reply_by e s request reading).state.rows
+  pub given : after ≡ risen before (reply_by e s request reading).given
 
 -- what was written is this reply, and so many rows as it has were handed out more
 pub record IsReply (reply : Reply) (text : List ℕ) (before after : ℕ) : Type 0 where
@@ -40,24 +42,29 @@ abbrev pub only_of : Wanted → Condition
 only_of (w.Only cond) = condition_of cond
 only_of w.Every = and none
 
+-- The names by whose values a condition is judged: all that stand in it, or none where no virtual field and no compound does.
+abbrev pub IsAskedBy : Setting → Condition → Option (List (List ℕ)) → Type 0
+IsAskedBy st cond None = has_computed st cond ≡ false
+IsAskedBy st cond (Some names) = (name : List ℕ) → is_among name names ≡ is_among name (names_of cond)
+
 -- a line got its reply
-pub record Answered (st : Setting) (s : State) (line text : List ℕ) (rows : Option (List Row)) (before after : ℕ) : Type 0 where
+pub record Answered (e : Environment) (s : State) (line text : List ℕ) (rows : Option (List Row)) (before after : ℕ) : Type 0 where
   pub turn : Turn
   pub is_line : turn.line ≡ line
-  pub is_turn : IsTurn st turn
-  pub is_text : text ≡ (reply_to st s turn).text
-  pub are_rows : rows ≡ Some (reply_to st s turn).state.rows
-  pub given : after ≡ risen before (reply_to st s turn).given
+  pub is_turn : IsTurn e turn
+  pub is_text : text ≡ (reply_to e s turn).text
+  pub are_rows : rows ≡ Some (reply_to e s turn).state.rows
+  pub given : after ≡ risen before (reply_to e s turn).given
 
--- The line got no reply. The rows are as before or as after its reply, and no more were handed out than with it.
-pub record Undone (st : Setting) (s : State) (line : List ℕ) (rows : Option (List Row)) (before after : ℕ) : Type 0 where
-  pub are_rows : (rows ≡ Some s.rows) ⊎ ((turn : Turn) × (turn.line ≡ line) × IsTurn st turn × (rows ≡ Some (reply_to st s turn).state.rows))
-  pub given : (after ≡ before) ⊎ ((turn : Turn) × (turn.line ≡ line) × IsTurn st turn × (after ≡ risen before (reply_to st s turn).given))
+-- The line got no reply. The rows are as before, and no more were handed out than with its reply.
+pub record Unanswered (e : Environment) (s : State) (line : List ℕ) (rows : Option (List Row)) (before after : ℕ) : Type 0 where
+  pub same_rows : rows ≡ Some s.rows
+  pub given : (after ≡ before) ⊎ ((turn : Turn) × (turn.line ≡ line) × IsTurn e turn × (after ≡ risen before (reply_to e s turn).given))
 
 -- The request got no reply. The rows are as before, and no more were handed out than with its reply.
-pub record Kept (st : Setting) (s : State) (request : Request) (rows : Option (List Row)) (before after : ℕ) : Type 0 where
+pub record Kept (e : Environment) (s : State) (request : Request) (rows : Option (List Row)) (before after : ℕ) : Type 0 where
   pub same_rows : rows ≡ Some s.rows
-  pub given : (after ≡ before) ⊎ ((reading : Result Condition CondFault) × IsReadingOf request reading × (after ≡ risen before (reply_by st s request reading).given))
+  pub given : (after ≡ before) ⊎ ((reading : Result Condition CondFault) × IsReadingOf request reading × (after ≡ risen before (reply_by e s request reading).given))
 
 -- a key that is asked for is lawful
 abbrev pub HasLawfulKey : Setting → Request → Type 0

@@ -6,7 +6,7 @@ ghost use Rattle.dbe_cond.specs.Condition.{condition_of};
 ghost use Rattle.dbe_values.specs.Writing.{item_data};
 ghost use Rattle.dbe_table.specs.Rows.{Row};
 ghost use Rattle.dbe_session.specs.declared.request.Request.TheVariants as r;
-ghost use Rattle.dbe_session.specs.Reply.{State, searchable, reserved_in, explain_reply, explained_text};
+ghost use Rattle.dbe_session.specs.Reply.{State, in_config, searchable, reserved_in, explain_reply, explained_text};
 ghost use Rattle.dbe_session.specs.Steps.{Replied};
 ghost use Rattle.dbe_session.specs.Texts.{names_data, condition_data, condition_text};
 
@@ -22,7 +22,7 @@ use std::alloc::Global;
 
 /// The reply to an explain. It does not come to the table.
 pub(crate) fn explain(alloc: Global, config: &Config, query: &Query) -> Result<Vec<u8>, Memory>
-    ensures { IfOk result (λ text. (s : State) (rows : Option (List Row)) (given : ℕ) → rows ≡ Some s.rows → Replied config.now s (r.Explain query.now) text.items rows given given) }
+    ensures { IfOk result (λ text. (s : State) (rows : Option (List Row)) (given : ℕ) → rows ≡ Some s.rows → Replied (in_config config.now) s (r.Explain query.now) text.items rows given given) }
 {
     match read(alloc, query.text.as_str(), &query.names, &query.values) {
         Ok(cond) => explained(alloc, config, &cond),
@@ -31,7 +31,7 @@ pub(crate) fn explain(alloc: Global, config: &Config, query: &Query) -> Result<V
 }
 
 fn explained(alloc: Global, config: &Config, cond: &Cond) -> Result<Vec<u8>, Memory>
-    ensures { IfOk result (λ text. (s : State) → text.items ≡ (searchable s (reserved_in (condition_of cond.now)) (explain_reply config.now s (condition_of cond.now))).text) }
+    ensures { IfOk result (λ text. (s : State) → text.items ≡ (searchable s (reserved_in (condition_of cond.now)) (explain_reply (in_config config.now) s (condition_of cond.now))).text) }
 {
     match first_name_with(cond, "aws_dbe_") {
         Some(name) => not_searchable(alloc, name.as_str()),

@@ -3,6 +3,7 @@
 
 mod computing;
 mod explaining;
+mod names;
 mod queries;
 mod request;
 mod requests;

@@ -1,19 +1,20 @@
-ghost use Rattle.std.specs.Prelude.{◌≡◌, ◌≤◌, List, filter, Some, Err, IfOk, OnErr, IsSome};
+ghost use Rattle.std.specs.Prelude.{◌≡◌, ◌≤◌, List, filter, Some, Err, IfOk, OnErr, IsSome, option_map};
 ghost use Rattle.dbe_io.specs.Causes.{Rose};
 ghost use Rattle.dbe_cond.specs.Condition.{condition_of};
 ghost use Rattle.dbe_cond.specs.Meaning.{holds};
 ghost use Rattle.dbe_table.specs.Rows.{Row, wanted_rows};
 ghost use Rattle.dbe_session.specs.declared.request.Request.TheVariants as r;
-ghost use Rattle.dbe_session.specs.Reply.{State, has_computed, handed_out, selects, selected_text, query_reply, searchable, reserved_in};
-ghost use Rattle.dbe_session.specs.Steps.{Replied, Kept, IsReply, IsGivenBy, IsOnly, only_of};
+ghost use Rattle.dbe_session.specs.Reply.{State, in_config, has_computed, handed_out, selects, selected_text, query_reply, searchable, reserved_in};
+ghost use Rattle.dbe_session.specs.Steps.{Replied, Kept, IsReply, IsGivenBy, IsOnly, IsAskedBy, only_of};
 
 use crate::computing::has_computed;
+use crate::names::distinct_names;
 use crate::texts::{cond_refusal, count_text, item_text, not_searchable};
 use crate::{Query, StepFault};
 use dbe_cond::{Cond, Wanted, first_name_with, holds, read};
 use dbe_config::Config;
-use dbe_fields::extended;
-use dbe_num::Memory;
+use dbe_fields::values_of;
+use dbe_num::{Memory, Text};
 use dbe_table::{Table, TableFault};
 use dbe_values::Item;
 use std::alloc::Global;
@@ -26,8 +27,8 @@ pub(crate) fn query_table<T: Table>(
     query: &Query,
 ) -> Result<Vec<u8>, StepFault>
     requires { T.begun table.old ≡ Some config.now.schema }
-    ensures ok { IfOk result (λ text. (s : State) → T.rows table.old ≡ Some s.rows → Replied config.now s (r.Query query.now) text.items (T.rows table.new) (T.given table.old) (T.given table.new)) }
-    ensures err { OnErr result ((s : State) → T.rows table.old ≡ Some s.rows → Kept config.now s (r.Query query.now) (T.rows table.new) (T.given table.old) (T.given table.new)) }
+    ensures ok { IfOk result (λ text. (s : State) → T.rows table.old ≡ Some s.rows → Replied (in_config config.now) s (r.Query query.now) text.items (T.rows table.new) (T.given table.old) (T.given table.new)) }
+    ensures err { OnErr result ((s : State) → T.rows table.old ≡ Some s.rows → Kept (in_config config.now) s (r.Query query.now) (T.rows table.new) (T.given table.old) (T.given table.new)) }
     ensures begun { T.begun table.new ≡ T.begun table.old }
     ensures later { T.faults table.old ≤ T.faults table.new }
     ensures failed { result ≡ Err StepFault.Table → Rose (T.faults table.old) (T.faults table.new) }
@@ -47,8 +48,8 @@ fn search<T: Table>(
 ) -> Result<Vec<u8>, StepFault>
     requires begun { IsSome (T.begun table.old) }
     requires only { IsOnly only.now }
-    ensures ok { IfOk result (λ text. (s : State) → T.rows table.old ≡ Some s.rows → IsReply (searchable s (reserved_in (only_of only.now)) (query_reply config.now s (only_of only.now))) text.items (T.given table.old) (T.given table.new)) }
-    ensures err { OnErr result ((s : State) → T.rows table.old ≡ Some s.rows → IsGivenBy (searchable s (reserved_in (only_of only.now)) (query_reply config.now s (only_of only.now))) (T.given table.old) (T.given table.new)) }
+    ensures ok { IfOk result (λ text. (s : State) → T.rows table.old ≡ Some s.rows → IsReply (searchable s (reserved_in (only_of only.now)) (query_reply (in_config config.now) s (only_of only.now))) text.items (T.given table.old) (T.given table.new)) }
+    ensures err { OnErr result ((s : State) → T.rows table.old ≡ Some s.rows → IsGivenBy (searchable s (reserved_in (only_of only.now)) (query_reply (in_config config.now) s (only_of only.now))) (T.given table.old) (T.given table.new)) }
     ensures same { T.rows table.new ≡ T.rows table.old }
     ensures begun { T.begun table.new ≡ T.begun table.old }
     ensures later { T.faults table.old ≤ T.faults table.new }
@@ -72,17 +73,18 @@ fn search_rows<T: Table>(
 ) -> Result<Vec<u8>, StepFault>
     requires begun { IsSome (T.begun table.old) }
     requires only { (rows : List Row) → wanted_rows only.now rows ≡ filter (holds (condition_of cond.now)) rows }
-    ensures ok { IfOk result (λ text. (s : State) → T.rows table.old ≡ Some s.rows → IsReply (query_reply config.now s (condition_of cond.now)) text.items (T.given table.old) (T.given table.new)) }
-    ensures err { OnErr result ((s : State) → T.rows table.old ≡ Some s.rows → IsGivenBy (query_reply config.now s (condition_of cond.now)) (T.given table.old) (T.given table.new)) }
+    ensures ok { IfOk result (λ text. (s : State) → T.rows table.old ≡ Some s.rows → IsReply (query_reply (in_config config.now) s (condition_of cond.now)) text.items (T.given table.old) (T.given table.new)) }
+    ensures err { OnErr result ((s : State) → T.rows table.old ≡ Some s.rows → IsGivenBy (query_reply (in_config config.now) s (condition_of cond.now)) (T.given table.old) (T.given table.new)) }
     ensures same { T.rows table.new ≡ T.rows table.old }
     ensures begun { T.begun table.new ≡ T.begun table.old }
     ensures later { T.faults table.old ≤ T.faults table.new }
     ensures failed { result ≡ Err StepFault.Table → Rose (T.faults table.old) (T.faults table.new) }
 {
     if has_computed(config, cond) {
-        search_by(alloc, config, table, &Wanted::Every, cond, true)
+        let names = distinct_names(alloc, cond)?;
+        search_by(alloc, config, table, &Wanted::Every, cond, Some(names.as_slice()))
     } else {
-        search_by(alloc, config, table, only, cond, false)
+        search_by(alloc, config, table, only, cond, None)
     }
 }
 
@@ -92,20 +94,20 @@ fn search_by<T: Table>(
     table: &mut T,
     wanted: &Wanted,
     cond: &Cond,
-    computed: bool,
+    names: Option<&[Text]>,
 ) -> Result<Vec<u8>, StepFault>
     requires begun { IsSome (T.begun table.old) }
-    requires wanted { (rows : List Row) → wanted_rows wanted.now rows ≡ handed_out config.now (condition_of cond.now) rows }
-    requires computed { computed ≡ has_computed config.now (condition_of cond.now) }
-    ensures ok { IfOk result (λ text. (s : State) → T.rows table.old ≡ Some s.rows → IsReply (query_reply config.now s (condition_of cond.now)) text.items (T.given table.old) (T.given table.new)) }
-    ensures err { OnErr result ((s : State) → T.rows table.old ≡ Some s.rows → IsGivenBy (query_reply config.now s (condition_of cond.now)) (T.given table.old) (T.given table.new)) }
+    requires wanted { (s : State) → wanted_rows wanted.now s.rows ≡ handed_out (in_config config.now) s (condition_of cond.now) }
+    requires names { IsAskedBy config.now (condition_of cond.now) (option_map (λ n. n.now) names) }
+    ensures ok { IfOk result (λ text. (s : State) → T.rows table.old ≡ Some s.rows → IsReply (query_reply (in_config config.now) s (condition_of cond.now)) text.items (T.given table.old) (T.given table.new)) }
+    ensures err { OnErr result ((s : State) → T.rows table.old ≡ Some s.rows → IsGivenBy (query_reply (in_config config.now) s (condition_of cond.now)) (T.given table.old) (T.given table.new)) }
     ensures same { T.rows table.new ≡ T.rows table.old }
     ensures begun { T.begun table.new ≡ T.begun table.old }
     ensures later { T.faults table.old ≤ T.faults table.new }
     ensures failed { result ≡ Err StepFault.Table → Rose (T.faults table.old) (T.faults table.new) }
 {
     match table.select(wanted) {
-        Ok(found) => Ok(selected_text(alloc, config, cond, computed, &found)?),
+        Ok(found) => Ok(selected_text(alloc, config, cond, names, &found)?),
         Err(TableFault::Failed) => Err(StepFault::Table),
         Err(TableFault::Memory) => Err(StepFault::Memory),
     }
@@ -116,16 +118,16 @@ fn selected_text(
     alloc: Global,
     config: &Config,
     cond: &Cond,
-    computed: bool,
+    names: Option<&[Text]>,
     found: &[Item],
 ) -> Result<Vec<u8>, Memory>
-    requires { computed ≡ has_computed config.now (condition_of cond.now) }
+    requires { IsAskedBy config.now (condition_of cond.now) (option_map (λ n. n.now) names) }
     ensures { IfOk result (λ text. text.items ≡ selected_text config.now (condition_of cond.now) found.now) }
 {
     let mut text = Vec::new(alloc);
     let mut count = 0u64;
     for item in found {
-        if selects(alloc, config, cond, computed, item)? {
+        if selects(alloc, config, cond, names, item)? {
             text.extend_from_slice(&item_text(alloc, item)?)?;
             count += 1;
         }
@@ -134,20 +136,19 @@ fn selected_text(
     Ok(text)
 }
 
-// The item is extended only where a virtual field or a compound stands in the condition.
+// Of the virtual fields and compounds those are made that stand in the condition.
 fn selects(
     alloc: Global,
     config: &Config,
     cond: &Cond,
-    computed: bool,
+    names: Option<&[Text]>,
     item: &Item,
 ) -> Result<bool, Memory>
-    requires { computed ≡ has_computed config.now (condition_of cond.now) }
+    requires { IsAskedBy config.now (condition_of cond.now) (option_map (λ n. n.now) names) }
     ensures { IfOk result (λ b. b ≡ selects config.now (condition_of cond.now) item.now) }
 {
-    if computed {
-        Ok(holds(cond, &extended(alloc, config, item)?))
-    } else {
-        Ok(holds(cond, item))
+    match names {
+        Some(names) => Ok(holds(cond, &values_of(alloc, config, names, item)?)),
+        None => Ok(holds(cond, item)),
     }
 }

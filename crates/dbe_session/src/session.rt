@@ -3,8 +3,8 @@ ghost use Rattle.dbe_io.specs.Causes.{Rose};
 ghost use Rattle.dbe_values.specs.Keys.{is_lawful_key};
 ghost use Rattle.dbe_values.specs.KeyValues.{key_view};
 ghost use Rattle.dbe_session.specs.declared.request.Request.TheVariants as r;
-ghost use Rattle.dbe_session.specs.Reply.{State};
-ghost use Rattle.dbe_session.specs.Steps.{Answered, Undone, Replied, Kept, HasLawfulKey};
+ghost use Rattle.dbe_session.specs.Reply.{State, in_config};
+ghost use Rattle.dbe_session.specs.Steps.{Answered, Unanswered, Replied, Kept, HasLawfulKey};
 
 use crate::explaining::explain;
 use crate::searching::query_table;
@@ -41,9 +41,9 @@ impl From<Memory> for StepFault {
     }
 }
 
-/// A session over a table: its configuration.
+/// A session over a table: what is fixed while it serves lines.
 ///
-/// Contracts see the configuration.
+/// Contracts see the configuration in it.
 #[derive(Drop)]
 pub struct Session {
     alloc: Global,
@@ -51,32 +51,36 @@ pub struct Session {
 }
 
 impl Model for Session {
-    ghost use Rattle.dbe_config.specs.Setting.{Setting};
+    ghost use Rattle.dbe_session.specs.Reply.{Environment};
 
-    ghost Value = { Setting };
+    ghost Value = { Environment };
 
-    ghost view = { λ s. s.config };
+    ghost view = { λ s. record { config = s.config } };
 }
 
 impl Session {
+    /// A session by a configuration. Takes no memory.
     pub fn new(alloc: Global, config: Config) -> Session
-        ensures { result ≡ config }
+        ensures { result ≡ in_config config }
     {
         Session { alloc, config }
     }
 
+    /// The configuration.
     pub fn config(&self) -> &Config
-        ensures { result.now ≡ self.now }
+        ensures { result.now ≡ self.now.config }
     {
         &self.config
     }
 
-    /// The reply to one line of a script, over a table that has begun with the configuration's keys. An empty line has
-    /// an empty one.
+    /// The reply to one line of a script, given without its newline, over a table that has begun with the configuration's
+    /// keys. An empty line has an empty one.
+    ///
+    /// `Table` comes only where the table failed; `Memory` where memory ran out. Then the rows are as before.
     pub fn step<T: Table>(&self, line: &[u8], table: &mut T) -> Result<Vec<u8>, StepFault>
-        requires { T.begun table.old ≡ Some self.now.schema }
+        requires { T.begun table.old ≡ Some self.now.config.schema }
         ensures ok { IfOk result (λ text. (s : State) → T.rows table.old ≡ Some s.rows → Answered self.now s line.now text.items (T.rows table.new) (T.given table.old) (T.given table.new)) }
-        ensures err { OnErr result ((s : State) → T.rows table.old ≡ Some s.rows → Undone self.now s line.now (T.rows table.new) (T.given table.old) (T.given table.new)) }
+        ensures err { OnErr result ((s : State) → T.rows table.old ≡ Some s.rows → Unanswered self.now s line.now (T.rows table.new) (T.given table.old) (T.given table.new)) }
         ensures begun { T.begun table.new ≡ T.begun table.old }
         ensures later { T.faults table.old ≤ T.faults table.new }
         ensures failed { result ≡ Err StepFault.Table → Rose (T.faults table.old) (T.faults table.new) }
@@ -97,8 +101,8 @@ fn reply_to<T: Table>(
 ) -> Result<Vec<u8>, StepFault>
     requires begun { T.begun table.old ≡ Some config.now.schema }
     requires key { HasLawfulKey config.now request }
-    ensures ok { IfOk result (λ text. (s : State) → T.rows table.old ≡ Some s.rows → Replied config.now s request text.items (T.rows table.new) (T.given table.old) (T.given table.new)) }
-    ensures err { OnErr result ((s : State) → T.rows table.old ≡ Some s.rows → Kept config.now s request (T.rows table.new) (T.given table.old) (T.given table.new)) }
+    ensures ok { IfOk result (λ text. (s : State) → T.rows table.old ≡ Some s.rows → Replied (in_config config.now) s request text.items (T.rows table.new) (T.given table.old) (T.given table.new)) }
+    ensures err { OnErr result ((s : State) → T.rows table.old ≡ Some s.rows → Kept (in_config config.now) s request (T.rows table.new) (T.given table.old) (T.given table.new)) }
     ensures begun { T.begun table.new ≡ T.begun table.old }
     ensures later { T.faults table.old ≤ T.faults table.new }
     ensures failed { result ≡ Err StepFault.Table → Rose (T.faults table.old) (T.faults table.new) }
@@ -125,7 +129,7 @@ fn put<T: Table>(
     item: Item,
 ) -> Result<Vec<u8>, StepFault>
     requires { T.begun table.old ≡ Some config.now.schema }
-    ensures ok { IfOk result (λ text. (s : State) → T.rows table.old ≡ Some s.rows → Replied config.now s (r.Put item) text.items (T.rows table.new) (T.given table.old) (T.given table.new)) }
+    ensures ok { IfOk result (λ text. (s : State) → T.rows table.old ≡ Some s.rows → Replied (in_config config.now) s (r.Put item) text.items (T.rows table.new) (T.given table.old) (T.given table.new)) }
     ensures rows { OnErr result (T.rows table.new ≡ T.rows table.old) }
     ensures given { T.given table.new ≡ T.given table.old }
     ensures begun { T.begun table.new ≡ T.begun table.old }
@@ -155,8 +159,8 @@ fn get<T: Table>(
 ) -> Result<Vec<u8>, StepFault>
     requires begun { T.begun table.old ≡ Some config.now.schema }
     requires key { is_lawful_key config.now.schema (key_view key.now) ≡ true }
-    ensures ok { IfOk result (λ text. (s : State) → T.rows table.old ≡ Some s.rows → Replied config.now s (r.Get key.now) text.items (T.rows table.new) (T.given table.old) (T.given table.new)) }
-    ensures err { OnErr result ((s : State) → T.rows table.old ≡ Some s.rows → Kept config.now s (r.Get key.now) (T.rows table.new) (T.given table.old) (T.given table.new)) }
+    ensures ok { IfOk result (λ text. (s : State) → T.rows table.old ≡ Some s.rows → Replied (in_config config.now) s (r.Get key.now) text.items (T.rows table.new) (T.given table.old) (T.given table.new)) }
+    ensures err { OnErr result ((s : State) → T.rows table.old ≡ Some s.rows → Kept (in_config config.now) s (r.Get key.now) (T.rows table.new) (T.given table.old) (T.given table.new)) }
     ensures begun { T.begun table.new ≡ T.begun table.old }
     ensures later { T.faults table.old ≤ T.faults table.new }
     ensures failed { result ≡ Err StepFault.Table → Rose (T.faults table.old) (T.faults table.new) }
@@ -177,8 +181,8 @@ fn check<T: Table>(
 ) -> Result<Vec<u8>, StepFault>
     requires begun { T.begun table.old ≡ Some config.now.schema }
     requires key { is_lawful_key config.now.schema (key_view key.now) ≡ true }
-    ensures ok { IfOk result (λ text. (s : State) → T.rows table.old ≡ Some s.rows → Replied config.now s (r.Check key.now) text.items (T.rows table.new) (T.given table.old) (T.given table.new)) }
-    ensures err { OnErr result ((s : State) → T.rows table.old ≡ Some s.rows → Kept config.now s (r.Check key.now) (T.rows table.new) (T.given table.old) (T.given table.new)) }
+    ensures ok { IfOk result (λ text. (s : State) → T.rows table.old ≡ Some s.rows → Replied (in_config config.now) s (r.Check key.now) text.items (T.rows table.new) (T.given table.old) (T.given table.new)) }
+    ensures err { OnErr result ((s : State) → T.rows table.old ≡ Some s.rows → Kept (in_config config.now) s (r.Check key.now) (T.rows table.new) (T.given table.old) (T.given table.new)) }
     ensures begun { T.begun table.new ≡ T.begun table.old }
     ensures later { T.faults table.old ≤ T.faults table.new }
     ensures failed { result ≡ Err StepFault.Table → Rose (T.faults table.old) (T.faults table.new) }

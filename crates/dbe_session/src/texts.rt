@@ -167,7 +167,7 @@ pub(crate) fn line_of(alloc: Global, value: &Value) -> Result<Vec<u8>, Memory>
     requires { has_float (view value.now) ≡ false }
     ensures { IfOk result (λ text. text.items ≡ line_of (view value.now)) }
 {
-    let mut text = value.to_string(alloc)?.into_bytes();
+    let mut text = value.to_vec(alloc)?;
     text.push(b'\n')?;
     Ok(text)
 }

@@ -1,15 +1,16 @@
 use Rattle.dbe_cond.specs.Condition.{condition_of}
+use Rattle.dbe_session.specs.Reply.{in_config}
 use Rattle.dbe_session.proofs.Replies.{answered, not_answered, cond_refused, then_ok, then_err}
 use Rattle.dbe_session.proofs.searching.query_table.Goals as goal
 
 pub returns-in-Ok-clause-ok : goal.returns-in-Ok-clause-ok
 returns-in-Ok-clause-ok g c = then_ok c.search.result _ _ (λ text p s are.
-    answered c.args.config.now s c.args.query.now (condition_of c.in-Ok.cond) _ _ _ _ (rw c.as_str.ensures at c.in-Ok.ensures.ok) are c.search.ensures.same _ (p s are)) c.search.ensures.ok
+    answered (in_config c.args.config.now) s c.args.query.now (condition_of c.in-Ok.cond) _ _ _ _ (rw c.as_str.ensures at c.in-Ok.ensures.ok) are c.search.ensures.same _ (p s are)) c.search.ensures.ok
 
 pub returns-in-Ok-clause-err : goal.returns-in-Ok-clause-err
 returns-in-Ok-clause-err g c = then_err c.search.result _ _ (λ p s are.
-    not_answered c.args.config.now s c.args.query.now (condition_of c.in-Ok.cond) _ _ _ _ (rw c.as_str.ensures at c.in-Ok.ensures.ok) are c.search.ensures.same (p s are)) c.search.ensures.err
+    not_answered (in_config c.args.config.now) s c.args.query.now (condition_of c.in-Ok.cond) _ _ _ _ (rw c.as_str.ensures at c.in-Ok.ensures.ok) are c.search.ensures.same (p s are)) c.search.ensures.err
 
 pub returns-in_ok-cond_refusal-in-Err-clause-ok : goal.returns-in_ok-cond_refusal-in-Err-clause-ok
 returns-in_ok-cond_refusal-in-Err-clause-ok g c = λ s are.
-    cond_refused c.args.config.now s c.args.query.now c.in-Err.fault _ _ _ c.in_ok-cond_refusal-in-Err.ensures.told (rw c.as_str.ensures at c.in-Err.ensures.refused) are c.in_ok-cond_refusal-in-Err.ensures.text
+    cond_refused (in_config c.args.config.now) s c.args.query.now c.in-Err.fault _ _ _ c.in_ok-cond_refusal-in-Err.ensures.told (rw c.as_str.ensures at c.in-Err.ensures.refused) are c.in_ok-cond_refusal-in-Err.ensures.text

@@ -2,7 +2,7 @@ use Rattle.std.proofs.Common.{ap, sym, ◌∙◌, subst}
 use Rattle.dbe_session.specs.Requests.{request_of}
 use Rattle.dbe_session.specs.Steps.{HasLawfulKey}
 use Rattle.dbe_session.proofs.Keys.{lawful_key}
-use Rattle.dbe_session.proofs.Replies.{empty_line, asked_replied, asked_undone, is_nothing, is_something, then_ok, then_err}
+use Rattle.dbe_session.proofs.Replies.{empty_line, asked_replied, not_replied, is_nothing, is_something, then_ok, then_err}
 use Rattle.dbe_session.proofs.session.Session.step.Goals as goal
 
 pub returns-then-is_empty-clause-ok : goal.returns-then-is_empty-clause-ok
@@ -19,5 +19,5 @@ returns-clause-ok g c = then_ok c.reply_to.result _ _ (λ text p s are.
 
 pub returns-clause-err : goal.returns-clause-err
 returns-clause-err g c = then_err c.reply_to.result _ _ (λ p s are.
-    asked_undone c.args.self.now c.self.inside.config s c.args.line.now _ _ _ _ c.self.view_is (c.in_ok-request.ensures ∙ ap (λ schema. request_of schema c.args.line.now) c.schema.ensures)
+    not_replied c.args.self.now c.self.inside.config s c.args.line.now _ _ _ _ c.self.view_is (c.in_ok-request.ensures ∙ ap (λ schema. request_of schema c.args.line.now) c.schema.ensures)
     (is_something c.args.line.now c.if-is_empty.ensures) (p s are)) c.reply_to.ensures.err

@@ -1,0 +1,6 @@
+use Rattle.std.proofs.Common.{◌≡◌, ◌||◌, ℕ, List, drop}
+use Rattle.dbe_config.specs.Rules.{is_among}
+use Rattle.dbe_session.proofs.names.distinct.Given as goal
+
+abbrev pub invariant-loop-name : goal.invariant-loop-name
+invariant-loop-name l = (n : List ℕ) → (is_among n l.found.items || is_among n (drop l.name-index l.names)) ≡ is_among n l.names
