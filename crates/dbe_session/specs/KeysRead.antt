@@ -1,4 +1,4 @@
--- A key that was read, or what is answered in its place.
+-- A key that was read, or what is answered in its place (this project's own).
 use Rattle.std.specs.Prelude.{◌≡◌}
 use Rattle.dbe_values.specs.declared.key.KeyValue.{KeyValue}
 use Rattle.dbe_values.specs.declared.fault.ItemFault.{ItemFault}

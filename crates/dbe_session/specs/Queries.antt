@@ -23,6 +23,7 @@ abbrev pub are_placeholders : ℕ → Members → Bool
 are_placeholders sign no_members = true
 are_placeholders sign (member name d ms) = is_placeholder sign name && are_placeholders sign ms
 
+-- members that are texts
 abbrev pub are_texts : Members → Bool
 are_texts no_members = true
 are_texts (member name d ms) = is_some (as_str d) && are_texts ms
@@ -32,10 +33,12 @@ abbrev pub members_in : Option Data → Option Members
 members_in None = Some no_members
 members_in (Some d) = as_object d
 
+-- texts under `#` placeholders
 abbrev pub names_have_form : Option Members → Bool
 names_have_form None = false
 names_have_form (Some ms) = are_placeholders 35 ms && are_texts ms
 
+-- members under `:` placeholders
 abbrev pub values_have_form : Option Members → Bool
 values_have_form None = false
 values_have_form (Some ms) = are_placeholders 58 ms
@@ -59,18 +62,21 @@ has_form d =
     && names_have_form (members_in (get (codes "names") d))
     && values_have_form (members_in (get (codes "values") d))
 
+-- a text, empty where there is none
 abbrev pub or_empty : Option (List ℕ) → List ℕ
 or_empty None = []
 or_empty (Some text) = text
 
+-- members, none where there is no object
 abbrev pub or_none : Option Members → Members
 or_none None = no_members
 or_none (Some ms) = ms
 
--- A value under a placeholder, or the placeholder and why there is none.
+-- a placeholder, and why what stands under it is refused
 abbrev pub Faulty : Type 0
 Faulty = List ℕ × ValueFault
 
+-- an entry before others, or the first fault
 abbrev pub then_entry : {A : Type 0} → List ℕ → Result A ValueFault → Result (List (List ℕ × A)) Faulty → Result (List (List ℕ × A)) Faulty
 then_entry name (Err why) others = Err (name, why)
 then_entry name (Ok a) (Err f) = Err f
@@ -80,10 +86,12 @@ then_entry name (Ok a) (Ok others) = Ok ((name, a) ∷ others)
 abbrev pub name_in : Data → Result (List ℕ) ValueFault
 name_in d = if is_name (or_empty (as_str d)) then Ok (or_empty (as_str d)) else Err fault.BadName
 
+-- the names under placeholders, or the first fault
 abbrev pub names_in : Members → Result (List (List ℕ × List ℕ)) Faulty
 names_in no_members = Ok []
 names_in (member name d ms) = then_entry name (name_in d) (names_in ms)
 
+-- a value as contracts of dbe_values give it
 abbrev pub seen_as : Result Val ValueFault → Result AttrValue ValueFault
 seen_as (Ok v) = Ok (attr_of v)
 seen_as (Err why) = Err why
@@ -92,10 +100,12 @@ seen_as (Err why) = Err why
 abbrev pub attr_in : Data → Result AttrValue ValueFault
 attr_in d = seen_as (value_in 32 d)
 
+-- the values under placeholders, or the first fault
 abbrev pub values_in : Members → Result (List (List ℕ × AttrValue)) Faulty
 values_in no_members = Ok []
 values_in (member name d ms) = then_entry name (attr_in d) (values_in ms)
 
+-- a query of a text, names and values, or the first fault
 abbrev pub asked_with : List ℕ → Result (List (List ℕ × List ℕ)) Faulty → Result (List (List ℕ × AttrValue)) Faulty → Result Query Faulty
 asked_with text (Err f) values = Err f
 asked_with text (Ok names) (Err f) = Err f

@@ -1,4 +1,4 @@
--- What a call that reads the placeholders of a query answers.
+-- What a call that reads the placeholders of a query answers (this project's own).
 use Rattle.std.specs.Prelude.{◌≡◌, ℕ, List, Result, Ok, Err, ⊤}
 use Rattle.dbe_values.specs.declared.fault.ValueFault.{ValueFault}
 use Rattle.dbe_values.specs.declared.fault.ValueFault.TheVariants as v

@@ -1,4 +1,4 @@
--- The reply to a line, and the rows after it.
+-- The reply to a line, and the rows after it (this project's own).
 use Rattle.std.specs.Prelude.{◌≢◌, ℕ, ◌+◌, Bool, if◌then◌else◌, List, [], ◌∷◌, ◌++◌, Option, Some, None, Result, Ok, Err, length, map, filter, codes, ⊤}
 use Rattle.std.specs.List.{list_any}
 use Rattle.dbe_values.specs.declared.key.KeyValue.{KeyValue}
@@ -27,6 +27,7 @@ use Rattle.dbe_session.specs.declared.request.Request.TheVariants as r
 pub record Environment : Type 0 where
   pub config : Setting
 
+-- the environment of a configuration
 abbrev pub in_config : Setting → Environment
 in_config c = record { config = c }
 
@@ -50,6 +51,7 @@ abbrev pub IsReading : Query → Result Condition CondFault → Type 0
 IsReading q (Ok cond) = Reads q.text q.names q.values cond
 IsReading q (Err fault) = (fault ≢ c.Memory) × Refuses q.text q.names q.values fault
 
+-- the reading of a request's query; a request of another kind has none
 abbrev pub IsReadingOf : Request → Result Condition CondFault → Type 0
 IsReadingOf (r.Query q) reading = IsReading q reading
 IsReadingOf (r.Explain q) reading = IsReading q reading
@@ -76,10 +78,12 @@ put_reply e s item (Some fault) split = answer s (put_refusal fault) 0
 put_reply e s item None (Some at) = answer s (split_text at) 0
 put_reply e s item None None = record { text = put_text; state = record { rows = put_row e.config.schema item s.rows }; given = 0 }
 
+-- the item of a row that was found
 abbrev pub found_text : Option Row → List ℕ
 found_text None = none_text
 found_text (Some row) = item_text row
 
+-- what a check tells of a row that was found
 abbrev pub checked : Option Row → List ℕ
 checked None = none_text
 checked (Some row) = checked_text
@@ -104,6 +108,7 @@ handed_out e s cond = if has_computed e.config cond then s.rows else filter (hol
 abbrev pub selected_text : Setting → Condition → List Row → List ℕ
 selected_text st cond found = select_text (filter (selects st cond) found) (length found)
 
+-- the reply to a query whose condition was read
 abbrev pub query_reply : Environment → State → Condition → Reply
 query_reply e s cond = answer s (selected_text e.config cond (handed_out e s cond)) (length (handed_out e s cond))
 
@@ -111,6 +116,7 @@ query_reply e s cond = answer s (selected_text e.config cond (handed_out e s con
 abbrev pub explained_text : Setting → Condition → List ℕ
 explained_text st cond = if has_computed st cond then every_text else condition_text (printed_text cond) (printed_names cond) (printed_values cond)
 
+-- the reply to an explain whose condition was read
 abbrev pub explain_reply : Environment → State → Condition → Reply
 explain_reply e s cond = answer s (explained_text e.config cond) 0
 
@@ -164,5 +170,6 @@ abbrev pub replies_in : Environment → State → List Turn → List (List ℕ)
 replies_in e s [] = []
 replies_in e s (turn ∷ turns) = (reply_to e s turn).text ∷ replies_in e (reply_to e s turn).state turns
 
+-- the lines of turns
 abbrev pub lines_in : List Turn → List (List ℕ)
 lines_in turns = map (λ t. t.line) turns

@@ -28,18 +28,22 @@ put_in (Err (At name why)) = r.Value name why
 abbrev pub key_value : Val × Option Val → KeyValue
 key_value k = record { partition = attr_of k.0; sort = option_map attr_of k.1 }
 
+-- a request of a key, or the refusal of the first key attribute that is not lawful
 abbrev pub with_key : (KeyValue → Request) → Result (Val × Option Val) (List ℕ) → Request
 with_key make (Ok k) = make (key_value k)
 with_key make (Err name) = r.Key name
 
+-- a request of the key that an object holds, or the first fault of the walk through it
 abbrev pub keyed_by : KeySchema → (KeyValue → Request) → Result Entries ItemFault → Request
 keyed_by schema make (Ok es) = with_key make (row_key schema (attributes_of es))
 keyed_by schema make (Err NotObject) = r.Shape
 keyed_by schema make (Err (At name why)) = r.Value name why
 
+-- an object has a member of this name
 abbrev pub has_member : List ℕ → Data → Bool
 has_member name d = is_some (get name d)
 
+-- an object has as many members as there are key attributes, the sort key among them
 abbrev pub has_sort : Option KeyName → Data → Bool
 has_sort None d = size_of d == 1
 has_sort (Some sort) d = size_of d == 2 && has_member sort.name d
@@ -48,10 +52,11 @@ has_sort (Some sort) d = size_of d == 2 && has_member sort.name d
 abbrev pub is_key_object : KeySchema → Data → Bool
 is_key_object schema d = has_member schema.partition.name d && has_sort schema.sort d
 
--- a key
+-- a request of a key that is spelled by an object
 abbrev pub key_in : KeySchema → (KeyValue → Request) → Data → Request
 key_in schema make d = if is_key_object schema d then keyed_by schema make (item_in d) else r.Shape
 
+-- a request of a query, or its first fault
 abbrev pub asked_by : (Query → Request) → Result Query Faulty → Request
 asked_by make (Ok q) = make q
 asked_by make (Err f) = r.Value f.0 f.1
@@ -60,6 +65,7 @@ asked_by make (Err f) = r.Value f.0 f.1
 abbrev pub query_in : (Query → Request) → Data → Request
 query_in make d = if has_form d then asked_by make (asked_in d) else r.Shape
 
+-- a text that is a branch id
 abbrev pub is_id : Option (List ℕ) → Bool
 is_id None = false
 is_id (Some text) = is_branch_id text

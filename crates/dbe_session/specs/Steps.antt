@@ -1,4 +1,4 @@
--- What one line does to the table.
+-- What one line does to the table (this project's own).
 use Rattle.std.specs.Prelude.{◌≡◌, ◌⊎◌, ℕ, true, false, List, Some, None, Result, ⊤}
 use Rattle.std.specs.declared.option.Option.{Option}
 use Rattle.dbe_config.specs.Setting.{Setting}

@@ -48,7 +48,7 @@ refused_text why = line_of (object (member (codes "refused") (string why) no_mem
 abbrev pub refused_name : List ℕ → List ℕ → List ℕ
 refused_name why name = line_of (object (member (codes "name") (string name) (member (codes "refused") (string why) no_members)))
 
--- the refusal of a request for a reason: `at` and `name` stand where the reason has them
+-- the members that a refusal for a reason ends with
 abbrev pub reason : List ℕ → List ℕ → Members
 reason refused why = member (codes "refused") (string refused) (member (codes "why") (string why) no_members)
 
