@@ -91,13 +91,13 @@ module _ (row other : Row) where
 -- ---- the extended item, and an item with the values of the condition's names alone
 
 -- none of some names passes a test, so one of them does not
+fails_here : (p : List ℕ → Bool) (name n : List ℕ) (names : List (List ℕ)) → p n ≡ false → is_among name (n ∷ names) ≡ true → (is_among name names ≡ true → p name ≡ false) → (b : Bool) → bytes_eq name n ≡ b → p name ≡ false
+fails_here p name n names fails among later true same = ap p ((bytes_eq-Decides name n).0 same) ∙ fails
+fails_here p name n names fails among later false other = later (rw other at among)
+
 fails_among : (p : List ℕ → Bool) (name : List ℕ) (names : List (List ℕ)) → list_any p names ≡ false → is_among name names ≡ true → p name ≡ false
 fails_among p name [] none among = absurd (cc)
-fails_among p name (n ∷ names) none among = here (bytes_eq name n) refl
-  where
-    here : (b : Bool) → bytes_eq name n ≡ b → p name ≡ false
-    here true same = ap p ((bytes_eq-Decides name n).0 same) ∙ (neither _ _ none).0
-    here false other = fails_among p name names (neither _ _ none).1 (rw other at among)
+fails_among p name (n ∷ names) none among = let both = neither (p n) (list_any p names) none in fails_here p name n names both.0 among (fails_among p name names both.1) (bytes_eq name n) refl
 
 -- a condition without virtual fields and compounds selects an item exactly where it holds of the item
 pub selects_same : (s : Setting) (cond : Condition) (row : Row) → has_computed s cond ≡ false → selects s cond row ≡ holds cond row

@@ -1,6 +1,7 @@
 pub mod Counts
 pub mod Known
 pub mod Asked
+pub mod Distinct
 pub mod Floats
 pub mod Named
 pub mod Computed

@@ -82,7 +82,14 @@ fn search_rows<T: Table>(
 {
     if has_computed(config, cond) {
         let names = distinct_names(alloc, cond)?;
-        search_by(alloc, config, table, &Wanted::Every, cond, Some(names.as_slice()))
+        search_by(
+            alloc,
+            config,
+            table,
+            &Wanted::Every,
+            cond,
+            Some(names.as_slice()),
+        )
     } else {
         search_by(alloc, config, table, only, cond, None)
     }
