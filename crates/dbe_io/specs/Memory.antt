@@ -3,7 +3,7 @@ use Rattle.std.specs.Prelude.{ℕ, ◌==◌, ◌+◌, ◌-◌, ◌^◌, min, Boo
 use Rattle.std.specs.List.{list_any}
 
 -- a source in memory
-pub record Giving : Type 0 where
+pub record SourceInMemory : Type 0 where
   pub left : List ℕ  -- the bytes still to come
   pub most : ℕ  -- the most bytes of one call
   pub calls : ℕ  -- how many calls were made
@@ -11,7 +11,7 @@ pub record Giving : Type 0 where
   pub faults : ℕ  -- how many have failed
 
 -- a sink in memory
-pub record Taking : Type 0 where
+pub record SinkInMemory : Type 0 where
   pub written : List ℕ  -- the bytes that were written
   pub room : ℕ  -- the most bytes of all calls
   pub most : ℕ  -- the most bytes of one call

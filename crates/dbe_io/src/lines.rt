@@ -2,7 +2,7 @@ ghost use Rattle.std.specs.Prelude.{◌≡◌, ◌≢◌, ◌≤◌, ◌<◌, �
 ghost use Rattle.std.specs.Io.KnownBytes.{IsAtEnd, Keeps};
 ghost use Rattle.dbe_io.specs.Causes.{Rose};
 ghost use Rattle.dbe_io.specs.Lines.{first_piece, HasNone};
-ghost use Rattle.dbe_io.specs.Reading.{AsksNothing, Given, IsReading, Stops, IsCause, budget, most_of};
+ghost use Rattle.dbe_io.specs.Reading.{NeedsNoBytes, Given, IsLineReaderState, Stops, IsCause, budget, most_of};
 ghost use Rattle.dbe_io.specs.Steps.{IsLineAt, IsOpen, Took, Refused, reads_left};
 
 use crate::Source;
@@ -36,15 +36,15 @@ pub struct LineReader {
 }
 
 impl Model for LineReader {
-    ghost use Rattle.dbe_io.specs.Reading.{Reading, IsReading};
+    ghost use Rattle.dbe_io.specs.Reading.{LineReaderState, IsLineReaderState};
 
-    ghost Value = { Reading };
+    ghost Value = { LineReaderState };
 
     ghost use Rattle.std.specs.Prelude.{◌+◌, length};
 
     ghost view = { λ r. record { limit = r.limit; total = r.total; held = r.held; taken = r.given + length r.held; ended = r.ended; fault = r.fault } };
 
-    ghost invariant = { λ r. IsReading (record { limit = r.limit; total = r.total; held = r.held; taken = r.given + length r.held; ended = r.ended; fault = r.fault }) };
+    ghost invariant = { λ r. IsLineReaderState (record { limit = r.limit; total = r.total; held = r.held; taken = r.given + length r.held; ended = r.ended; fault = r.fault }) };
 }
 
 impl LineReader {
@@ -72,8 +72,8 @@ impl LineReader {
         ensures later { S.faults source.old ≤ S.faults source.new }
         ensures read { IsErrOf result LineFault.Read → (self.old.fault ≡ Some LineFault.Read) ⊎ Rose (S.faults source.old) (S.faults source.new) }
         ensures ended { self.old.ended ≡ true → (result ≡ Ok None) × (self.new ≡ self.old) }
-        ensures unasked { AsksNothing self.old → source.new ≡ source.old }
-        ensures within { IsReading self.new }
+        ensures unasked { NeedsNoBytes self.old → source.new ≡ source.old }
+        ensures within { IsLineReaderState self.new }
     {
         if let Some(fault) = self.fault {
             return Err(fault);

@@ -22,9 +22,9 @@ pub struct MemSink {
 }
 
 impl Model for MemSink {
-    ghost use Rattle.dbe_io.specs.Memory.{Taking};
+    ghost use Rattle.dbe_io.specs.Memory.{SinkInMemory};
 
-    ghost Value = { Taking };
+    ghost Value = { SinkInMemory };
 
     ghost use Rattle.std.specs.Prelude.{◌≤◌, vec_len, vec_capacity};
 

@@ -19,9 +19,9 @@ pub struct MemSource {
 }
 
 impl Model for MemSource {
-    ghost use Rattle.dbe_io.specs.Memory.{Giving};
+    ghost use Rattle.dbe_io.specs.Memory.{SourceInMemory};
 
-    ghost Value = { Giving };
+    ghost Value = { SourceInMemory };
 
     ghost use Rattle.std.specs.Prelude.{◌<◌, ◌≤◌, drop, length};
 
