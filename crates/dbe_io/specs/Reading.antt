@@ -1,4 +1,4 @@
--- What contracts see of a reader of lines, and what one call of it does.
+-- What contracts see of a reader of lines, and what one call of it does (this project's own).
 use Rattle.std.specs.Prelude.{ℕ, ◌≡◌, ◌≢◌, ◌+◌, ◌-◌, ◌<◌, ◌≤◌, ◌⊎◌, Bool, true, false, List, [], ◌∷◌, ◌++◌, length, Vec, Some, None}
 use Rattle.std.specs.declared.alloc.Global.{Global}
 use Rattle.std.specs.declared.option.Option.{Option}
@@ -23,7 +23,7 @@ pub record IsLineReaderState (r : LineReaderState) : Type 0 where
   pub held : length r.held ≤ r.limit + 1
   pub ended : r.ended ≡ true → (r.held ≡ []) × (r.fault ≡ None)
 
--- A reader asks its source nothing where it has ended, has answered a fault, or holds a whole line.
+-- the reader has ended, has answered a fault, or holds a whole line, so the next call needs no bytes of the source
 abbrev pub NeedsNoBytes : LineReaderState → Type 0
 NeedsNoBytes r = (r.ended ≡ true) ⊎ ((r.fault ≢ None) ⊎ (¬ HasNone 10 r.held))
 
@@ -88,11 +88,12 @@ pub record GaveUp (old new : LineReaderState) (left left' : Option (List ℕ)) (
   pub held : new.held ≡ old.held ++ moved
   pub cause : IsCause old.limit (most_of old) new.held fault
 
--- a call after one that gave up
+-- a call after one that gave up: it answers the same fault, and nothing changes
 pub record AnswersFaultAgain (old new : LineReaderState) (left left' : Option (List ℕ)) (fault : LineFault) : Type 0 where
   pub fault_then : old.fault ≡ Some fault
   pub same : new ≡ old
   pub kept : Keeps left left'
 
+-- a call that answers a fault, again or for the first time
 abbrev pub Stops : LineReaderState → LineReaderState → Option (List ℕ) → Option (List ℕ) → LineFault → Type 0
 Stops old new left left' fault = AnswersFaultAgain old new left left' fault ⊎ GaveUp old new left left' fault

@@ -1,4 +1,4 @@
--- The steps of one call of a reader of lines.
+-- The steps of one call of a reader of lines (this project's own).
 use Rattle.std.specs.Prelude.{ℕ, ◌≡◌, ◌+◌, ◌-◌, ◌<◌, ◌≤◌, List, ◌++◌, length}
 use Rattle.std.specs.declared.option.Option.{Option}
 use Rattle.std.specs.Io.KnownBytes.{Consumes, IsAtEnd}
@@ -48,6 +48,6 @@ pub record Refused (old new : LineReaderState) (left left' : Option (List ℕ)) 
   pub ended_is : new.ended ≡ old.ended
   pub cause : IsCause old.limit (most_of old) new.held fault
 
--- how often the reader may still read
+-- at most how often the reader may still read
 abbrev pub reads_left : LineReaderState → ℕ
 reads_left r = r.total + 2 - r.taken
