@@ -87,7 +87,8 @@ impl MemTable {
     ///
     /// `Memory`: memory ran out.
     pub fn rows(&self, alloc: Global) -> Result<Vec<Item>, Memory>
-        ensures { IfOk result (λ rows. rows.items ≡ self.now.rows) }
+        ensures rows { IfOk result (λ rows. rows.items ≡ self.now.rows) }
+        ensures not_begun { self.now.begun ≡ None → IfOk result (λ rows. rows.items ≡ []) }
     {
         found_among(alloc, &self.rows, &Wanted::Every)
     }
