@@ -5,13 +5,13 @@ use Rattle.std.specs.declared.option.Option.{Option}
 use Rattle.dbe_io.specs.declared.lines.LineFault.{LineFault}
 use Rattle.dbe_io.specs.declared.lines.LineFault.TheVariants as f
 use Rattle.dbe_io.specs.Lines.{onto, lines_of, ended_lines, first_piece, IsTooLong, IsTooMuch, IsWhole}
-use Rattle.dbe_io.specs.Reading.{Reading, GaveUp, Stops, most_of}
+use Rattle.dbe_io.specs.Reading.{LineReaderState, GaveUp, Stops, most_of}
 use Rattle.dbe_io.proofs.LineLaws.{ended_lines-open, IsTooLong-more, IsTooMuch-more}
 use Rattle.dbe.specs.Stops.{HasLongLine}
 use Rattle.dbe.proofs.ReadSoFar.{AreDone, ReadSoFar, pulled_from}
 
 -- a reader that had answered no fault gives up for the first time
-pub gave_up : (old new : Reading) (left left' : Option (List ℕ)) (fault : LineFault) → old.fault ≡ None → Stops old new left left' fault → GaveUp old new left left' fault
+pub gave_up : (old new : LineReaderState) (left left' : Option (List ℕ)) (fault : LineFault) → old.fault ≡ None → Stops old new left left' fault → GaveUp old new left left' fault
 gave_up old new left left' fault none (inl stays) = let both : Some fault ≡ None = sym stays.fault_then ∙ none in (cc)
 gave_up old new left left' fault none (inr g) = g
 
@@ -21,13 +21,13 @@ ended_or lines front rest ended (inl done) not_ended = done
 ended_or lines front rest ended (inr (is_ended, empty, d)) not_ended = absurd (false≢true (sym not_ended ∙ is_ended))
 
 -- what the reader holds and what is left are what was to come
-pub record Halted (limit total : ℕ) (bytes : List ℕ) (old new : Reading) (left' : Option (List ℕ)) (lines : List (List ℕ)) (p_front p_rest : List ℕ) : Type 0 where
+pub record Halted (limit total : ℕ) (bytes : List ℕ) (old new : LineReaderState) (left' : Option (List ℕ)) (lines : List (List ℕ)) (p_front p_rest : List ℕ) : Type 0 where
   pub left : List ℕ
   pub is_left : left' ≡ Some left
   pub rest_is : p_rest ≡ new.held ++ left
   pub most_is : most_of old ≡ total - length p_front
 
-pub halted : (limit total : ℕ) (bytes : List ℕ) (old new : Reading) (left left' : Option (List ℕ)) (lines : List (List ℕ)) (fault : LineFault)
+pub halted : (limit total : ℕ) (bytes : List ℕ) (old new : LineReaderState) (left left' : Option (List ℕ)) (lines : List (List ℕ)) (fault : LineFault)
     → (p : ReadSoFar limit total bytes old left lines) → GaveUp old new left left' fault → Halted limit total bytes old new left' lines p.front (old.held ++ p.to_come)
 halted limit total bytes old new left left' lines fault p g =
     let pull = pulled_from left left' p.to_come g.moved p.is_left g.moves.gone in record {
@@ -38,7 +38,7 @@ halted limit total bytes old new left left' lines fault p g =
     }
 
 -- the line that is to come is too long
-pub too_long : (limit total : ℕ) (bytes : List ℕ) (old new : Reading) (left left' : Option (List ℕ)) (lines : List (List ℕ))
+pub too_long : (limit total : ℕ) (bytes : List ℕ) (old new : LineReaderState) (left left' : Option (List ℕ)) (lines : List (List ℕ))
     → (p : ReadSoFar limit total bytes old left lines) → GaveUp old new left left' f.LineTooLong → IsTooLong limit (total - length p.front) (old.held ++ p.to_come)
 too_long limit total bytes old new left left' lines p g =
     let h = halted limit total bytes old new left left' lines f.LineTooLong p g in
@@ -49,7 +49,7 @@ too_long limit total bytes old new left left' lines p g =
     subst P p.is_limit (subst Q h.most_is (subst R (sym h.rest_is) long))
 
 -- too much is to come
-pub too_much : (limit total : ℕ) (bytes : List ℕ) (old new : Reading) (left left' : Option (List ℕ)) (lines : List (List ℕ))
+pub too_much : (limit total : ℕ) (bytes : List ℕ) (old new : LineReaderState) (left left' : Option (List ℕ)) (lines : List (List ℕ))
     → (p : ReadSoFar limit total bytes old left lines) → GaveUp old new left left' f.TooMuch → IsTooMuch limit (total - length p.front) (old.held ++ p.to_come)
 too_much limit total bytes old new left left' lines p g =
     let h = halted limit total bytes old new left left' lines f.TooMuch p g in
@@ -59,18 +59,18 @@ too_much limit total bytes old new left left' lines p g =
     let R : List ℕ → Type 0 = λ l. IsTooMuch old.limit (most_of old) l in
     subst P p.is_limit (subst Q h.most_is (subst R (sym h.rest_is) much))
 
-pub ended_before_long : (limit total : ℕ) (bytes : List ℕ) (old new : Reading) (left left' : Option (List ℕ)) (lines : List (List ℕ))
+pub ended_before_long : (limit total : ℕ) (bytes : List ℕ) (old new : LineReaderState) (left left' : Option (List ℕ)) (lines : List (List ℕ))
     → (p : ReadSoFar limit total bytes old left lines) → GaveUp old new left left' f.LineTooLong → lines ≡ ended_lines p.front
 ended_before_long limit total bytes old new left left' lines p g =
     (ended_or lines p.front (old.held ++ p.to_come) old.ended p.done g.not_ended).0
 
-pub ended_before_much : (limit total : ℕ) (bytes : List ℕ) (old new : Reading) (left left' : Option (List ℕ)) (lines : List (List ℕ))
+pub ended_before_much : (limit total : ℕ) (bytes : List ℕ) (old new : LineReaderState) (left left' : Option (List ℕ)) (lines : List (List ℕ))
     → (p : ReadSoFar limit total bytes old left lines) → GaveUp old new left left' f.TooMuch → lines ≡ ended_lines p.front
 ended_before_much limit total bytes old new left left' lines p g =
     (ended_or lines p.front (old.held ++ p.to_come) old.ended p.done g.not_ended).0
 
 -- the lines are those that end within the bytes taken
-pub read_stops : (limit total : ℕ) (bytes : List ℕ) (old new : Reading) (left left' : Option (List ℕ)) (lines : List (List ℕ))
+pub read_stops : (limit total : ℕ) (bytes : List ℕ) (old new : LineReaderState) (left left' : Option (List ℕ)) (lines : List (List ℕ))
     → (p : ReadSoFar limit total bytes old left lines) → (g : GaveUp old new left left' f.Read)
     → let h = halted limit total bytes old new left left' lines f.Read p g in
     (taken : List ℕ) × (p.front ++ (old.held ++ p.to_come) ≡ taken ++ h.left) × (lines ≡ ended_lines taken)

@@ -10,7 +10,7 @@ use Rattle.std.proofs.lemmas.List.Elements.{All-nil, All-push}
 use Rattle.dbe_io.specs.declared.lines.LineFault.TheVariants as f
 use Rattle.dbe_io.specs.Lines.{lines_of}
 use Rattle.dbe_io.specs.Prefix.{AppendsPrefix}
-use Rattle.dbe_io.specs.Reading.{Reading, Given, Stops}
+use Rattle.dbe_io.specs.Reading.{LineReaderState, Given, Stops}
 use Rattle.dbe_config.specs.Setting.{Setting}
 use Rattle.dbe_table.specs.Rows.{Row, risen}
 use Rattle.dbe_session.specs.Reply.{State, Turn, IsTurn, reply_to, run, lines_in}
@@ -28,7 +28,7 @@ abbrev pub Rows : Type 0
 Rows = Option (List Row)
 
 -- The lines that were given are done, and what they ask for was written.
-pub record Progress (c : Setting) (bytes : List ℕ) (start : State) (reader : Reading) (left : Option (List ℕ)) (rows : Rows) (given0 given : ℕ) (old new : Option (List ℕ)) : Type 0 where
+pub record Progress (c : Setting) (bytes : List ℕ) (start : State) (reader : LineReaderState) (left : Option (List ℕ)) (rows : Rows) (given0 given : ℕ) (old new : Option (List ℕ)) : Type 0 where
   pub turns : List Turn
   pub so_far : ReadSoFar 1048576 1073741824 bytes reader left (lines_in turns)
   pub are_turns : All (IsTurn c) turns
@@ -52,12 +52,12 @@ lines_in-more : (turns : List Turn) (turn : Turn) → lines_in (turns ++ turn �
 lines_in-more [] turn = refl
 lines_in-more (t ∷ ts) turn = ap (λ (ls : List (List ℕ)). t.line ∷ ls) (lines_in-more ts turn)
 
-pub Progress-start : (c : Setting) (bytes : List ℕ) (start : State) (reader : Reading) (left : Option (List ℕ)) (rows : Rows) (given : ℕ) (old : Option (List ℕ))
+pub Progress-start : (c : Setting) (bytes : List ℕ) (start : State) (reader : LineReaderState) (left : Option (List ℕ)) (rows : Rows) (given : ℕ) (old : Option (List ℕ))
     → ReadSoFar 1048576 1073741824 bytes reader left [] → rows ≡ Some start.rows → (most : risen given 0 ≡ given) → Progress c bytes start reader left rows given given old old
 Progress-start c bytes start reader left rows given old so_far state most = record { turns = []; so_far = so_far; are_turns = All-nil (IsTurn c); state = state; is_given = sym most; written = Appends-nil old }
 
 -- one line more
-pub Progress-more : (c : Setting) (bytes : List ℕ) (start : State) (old_reader new_reader : Reading) (left left' : Option (List ℕ)) (rows rows' : Rows) (given0 given given' : ℕ) (old new new' : Option (List ℕ)) (v : Vec ℕ Global)
+pub Progress-more : (c : Setting) (bytes : List ℕ) (start : State) (old_reader new_reader : LineReaderState) (left left' : Option (List ℕ)) (rows rows' : Rows) (given0 given given' : ℕ) (old new new' : Option (List ℕ)) (v : Vec ℕ Global)
     → Progress c bytes start old_reader left rows given0 given old new → Given old_reader new_reader left left' (Some v) → (old_reader.ended ≡ true → IsAtEnd left)
     → ((s : State) → rows ≡ Some s.rows → Turned c s v.items rows' given given' new new')
     → Progress c bytes start new_reader left' rows' given0 given' old new'
@@ -76,7 +76,7 @@ Progress-more c bytes start old_reader new_reader left left' rows rows' given0 g
     }
 
 -- where none is given, all lines are done
-pub Progress-done : (c : Setting) (bytes : List ℕ) (start : State) (old_reader new_reader : Reading) (left left' : Option (List ℕ)) (rows : Rows) (given0 given : ℕ) (old new : Option (List ℕ)) (before after : World)
+pub Progress-done : (c : Setting) (bytes : List ℕ) (start : State) (old_reader new_reader : LineReaderState) (left left' : Option (List ℕ)) (rows : Rows) (given0 given : ℕ) (old new : Option (List ℕ)) (before after : World)
     → Progress c bytes start old_reader left rows given0 given old new → Given old_reader new_reader left left' None → (old_reader.ended ≡ true → IsAtEnd left)
     → before.written ≡ old → before.given ≡ given0 → after.rows ≡ rows → after.given ≡ given → after.written ≡ new
     → (turns : List Turn) × AreTurnsOf c turns (lines_of bytes) × Replied c before after start turns
@@ -95,7 +95,7 @@ no_piece c s [] = refl
 no_piece c s (line ∷ lines) = inl refl
 
 -- where the run stops between lines, the lines that are done have their replies
-pub stopped_between : (c : Setting) (status : Status) (bytes : List ℕ) (start : State) (reader : Reading) (left0 : Option (List ℕ)) (rows : Rows) (given0 given : ℕ) (old new : Option (List ℕ)) (before after : World) (left : List ℕ)
+pub stopped_between : (c : Setting) (status : Status) (bytes : List ℕ) (start : State) (reader : LineReaderState) (left0 : Option (List ℕ)) (rows : Rows) (given0 given : ℕ) (old new : Option (List ℕ)) (before after : World) (left : List ℕ)
     → (p : Progress c bytes start reader left0 rows given0 given old new) → before.written ≡ old → after.rows ≡ rows → after.written ≡ new → after.script ≡ Some left
     → StopsFor status (lines_in p.turns) p.so_far.front (reader.held ++ p.so_far.to_come) left
     → StoppedAt c status before after start bytes p.turns
@@ -123,7 +123,7 @@ not_of_reply status (inr (inl is)) of = let P : Status → Type 0 = IsOfReply in
 not_of_reply status (inr (inr is)) of = let P : Status → Type 0 = IsOfReply in subst P is of
 
 -- where it stops within a line, that line is the next one
-pub stopped_within : (c : Setting) (status : Status) (bytes : List ℕ) (start : State) (old_reader new_reader : Reading) (left left' : Option (List ℕ)) (rows : Rows) (given0 given : ℕ) (old new : Option (List ℕ)) (before after : World) (v : Vec ℕ Global)
+pub stopped_within : (c : Setting) (status : Status) (bytes : List ℕ) (start : State) (old_reader new_reader : LineReaderState) (left left' : Option (List ℕ)) (rows : Rows) (given0 given : ℕ) (old new : Option (List ℕ)) (before after : World) (v : Vec ℕ Global)
     → (p : Progress c bytes start old_reader left rows given0 given old new) → Given old_reader new_reader left left' (Some v) → (old_reader.ended ≡ true → IsAtEnd left)
     → before.written ≡ old → after.script ≡ left'
     → IsOfReply status → TurnedDown c status (run c start p.turns).state v.items after.rows new after.written
@@ -184,7 +184,7 @@ free_of s.Read is lines front rest left = absurd is
 free_of s.LineTooLong is lines front rest left = absurd is
 free_of s.ScriptTooLong is lines front rest left = absurd is
 
-pub stopped_in_reply : (c : Setting) (status : Status) (bytes : List ℕ) (start : State) (old_reader new_reader : Reading) (left left' : Option (List ℕ)) (rows : Rows) (given0 given : ℕ) (old new : Option (List ℕ)) (before after : World) (v : Vec ℕ Global)
+pub stopped_in_reply : (c : Setting) (status : Status) (bytes : List ℕ) (start : State) (old_reader new_reader : LineReaderState) (left left' : Option (List ℕ)) (rows : Rows) (given0 given : ℕ) (old new : Option (List ℕ)) (before after : World) (v : Vec ℕ Global)
     → IsOfReply status → (p : Progress c bytes start old_reader left rows given0 given old new) → Given old_reader new_reader left left' (Some v) → (old_reader.ended ≡ true → IsAtEnd left)
     → before.written ≡ old → after.script ≡ left' → ((s : State) → rows ≡ Some s.rows → TurnedDown c status s v.items after.rows new after.written)
     → (turns : List Turn) × StoppedAt c status before after start bytes turns
@@ -192,7 +192,7 @@ stopped_in_reply c status bytes start old_reader new_reader left left' rows give
     (p.turns, stopped_within c status bytes start old_reader new_reader left left' rows given0 given old new before after v p read was is_old is_script of (down (run c start p.turns).state p.state) (free_of status of))
 
 -- where the reader gave up
-module _ (c : Setting) (bytes : List ℕ) (start : State) (old_reader new_reader : Reading) (left left' : Option (List ℕ)) (rows : Rows) (given0 given : ℕ) (old new : Option (List ℕ)) (before after : World) (p : Progress c bytes start old_reader left rows given0 given old new) (none : old_reader.fault ≡ None) (is_old : before.written ≡ old) (is_rows : after.rows ≡ rows) (is_new : after.written ≡ new) (is_script : after.script ≡ left') where
+module _ (c : Setting) (bytes : List ℕ) (start : State) (old_reader new_reader : LineReaderState) (left left' : Option (List ℕ)) (rows : Rows) (given0 given : ℕ) (old new : Option (List ℕ)) (before after : World) (p : Progress c bytes start old_reader left rows given0 given old new) (none : old_reader.fault ≡ None) (is_old : before.written ≡ old) (is_rows : after.rows ≡ rows) (is_new : after.written ≡ new) (is_script : after.script ≡ left') where
   pub stopped_read : Stops old_reader new_reader left left' f.Read → (turns : List Turn) × StoppedAt c s.Read before after start bytes turns
   stopped_read stops =
       let g = gave_up old_reader new_reader left left' f.Read none stops in

@@ -6,14 +6,14 @@ use Rattle.std.specs.List.{All}
 use Rattle.std.specs.Io.KnownBytes.{Consumes, IsAtEnd}
 use Rattle.std.proofs.lemmas.List.Elements.{All-nil, All-push}
 use Rattle.dbe_io.specs.Lines.{lines_of, ended_lines, HasNone, IsWhole}
-use Rattle.dbe_io.specs.Reading.{Reading, Given, IsEndedLine, IsLastLine, Moved, most_of}
+use Rattle.dbe_io.specs.Reading.{LineReaderState, Given, IsEndedLine, IsLastLine, Moved, most_of}
 use Rattle.dbe_io.proofs.LineLaws.{lines_of-ended, lines_of-last, lines_of-front, ended_lines-more, IsWhole-ended}
 
 -- The lines are those that newlines end in the front, or all of them where the reader has ended.
 abbrev pub AreDone : List (List ℕ) → List ℕ → List ℕ → Bool → Type 0
 AreDone lines front rest ended = ((lines ≡ ended_lines front) × IsWhole front) ⊎ ((ended ≡ true) × (rest ≡ []) × (lines ≡ lines_of front))
 
-pub record ReadSoFar (limit total : ℕ) (bytes : List ℕ) (reader : Reading) (left : Option (List ℕ)) (lines : List (List ℕ)) : Type 0 where
+pub record ReadSoFar (limit total : ℕ) (bytes : List ℕ) (reader : LineReaderState) (left : Option (List ℕ)) (lines : List (List ℕ)) : Type 0 where
   pub front : List ℕ
   pub to_come : List ℕ
   pub is_left : left ≡ Some to_come
@@ -27,7 +27,7 @@ pub record ReadSoFar (limit total : ℕ) (bytes : List ℕ) (reader : Reading) (
   pub is_total : reader.total ≡ total
 
 -- before the first line
-pub ReadSoFar-start : (limit total : ℕ) (bytes : List ℕ) (reader : Reading) (left : Option (List ℕ)) → reader.held ≡ [] → reader.taken ≡ 0 → reader.limit ≡ limit → reader.total ≡ total → left ≡ Some bytes
+pub ReadSoFar-start : (limit total : ℕ) (bytes : List ℕ) (reader : LineReaderState) (left : Option (List ℕ)) → reader.held ≡ [] → reader.taken ≡ 0 → reader.limit ≡ limit → reader.total ≡ total → left ≡ Some bytes
     → ReadSoFar limit total bytes reader left []
 ReadSoFar-start limit total bytes reader left held taken is_limit is_total told =
     let all : bytes ≡ reader.held ++ bytes = ap (λ h. h ++ bytes) (sym held) in
@@ -47,7 +47,7 @@ ReadSoFar-start limit total bytes reader left held taken is_limit is_total told 
     }
 
 -- One line more was given: it is the first of those that were to come.
-pub record NextLine (limit total : ℕ) (bytes : List ℕ) (reader : Reading) (left : Option (List ℕ)) (lines : List (List ℕ)) (rest line : List ℕ) : Type 0 where
+pub record NextLine (limit total : ℕ) (bytes : List ℕ) (reader : LineReaderState) (left : Option (List ℕ)) (lines : List (List ℕ)) (rest line : List ℕ) : Type 0 where
   pub so_far : ReadSoFar limit total bytes reader left (lines ++ line ∷ [])
   pub first : lines_of rest ≡ line ∷ lines_of (reader.held ++ so_far.to_come)
 
@@ -73,7 +73,7 @@ ended_done : (lines : List (List ℕ)) (front v rest shape : List ℕ) (ended : 
 ended_done lines front v rest shape ended (inl (d, w)) is none = (ap (λ ls. ls ++ v ∷ []) d ∙ sym (ended_lines-more front v w none), IsWhole-ended (front ++ v))
 ended_done lines front v rest shape ended (inr (is_ended, empty, d)) is none = absurd (no_empty v shape (sym is ∙ empty))
 
-more_ended : (limit total : ℕ) (bytes : List ℕ) (old new : Reading) (left left' : Option (List ℕ)) (lines : List (List ℕ)) (v moved : List ℕ)
+more_ended : (limit total : ℕ) (bytes : List ℕ) (old new : LineReaderState) (left left' : Option (List ℕ)) (lines : List (List ℕ)) (v moved : List ℕ)
     → (p : ReadSoFar limit total bytes old left lines) → Moved old new left left' moved → HasNone 10 v → IsEndedLine old.limit (most_of old) (old.held ++ moved) v new
     → NextLine limit total bytes new left' lines (old.held ++ p.to_come) v
 more_ended limit total bytes old new left left' lines v moved p moves none e =
@@ -110,7 +110,7 @@ last_done : (lines : List (List ℕ)) (front v rest : List ℕ) (ended : Bool) �
 last_done lines front v rest ended (inl (d, w)) is none some = ap (λ ls. ls ++ v ∷ []) d ∙ ap (λ ls. ended_lines front ++ ls) (sym (lines_of-last v none some)) ∙ sym (lines_of-front front v w)
 last_done lines front v rest ended (inr (is_ended, empty, d)) is none some = absurd (not_empty v some (sym is ∙ empty))
 
-more_last : (limit total : ℕ) (bytes : List ℕ) (old new : Reading) (left left' : Option (List ℕ)) (lines : List (List ℕ)) (v moved : List ℕ)
+more_last : (limit total : ℕ) (bytes : List ℕ) (old new : LineReaderState) (left left' : Option (List ℕ)) (lines : List (List ℕ)) (v moved : List ℕ)
     → (p : ReadSoFar limit total bytes old left lines) → Moved old new left left' moved → HasNone 10 v → IsLastLine old.limit (most_of old) (old.held ++ moved) v new → IsAtEnd left'
     → NextLine limit total bytes new left' lines (old.held ++ p.to_come) v
 more_last limit total bytes old new left left' lines v moved p moves none e end =
@@ -140,21 +140,21 @@ more_last limit total bytes old new left left' lines v moved p moves none e end 
       first = first;
     }
 
-more_by : (limit total : ℕ) (bytes : List ℕ) (old new : Reading) (left left' : Option (List ℕ)) (lines : List (List ℕ)) (v : List ℕ) (moved : List ℕ)
+more_by : (limit total : ℕ) (bytes : List ℕ) (old new : LineReaderState) (left left' : Option (List ℕ)) (lines : List (List ℕ)) (v : List ℕ) (moved : List ℕ)
     → (p : ReadSoFar limit total bytes old left lines) → Moved old new left left' moved → (new.ended ≡ true → IsAtEnd left') → HasNone 10 v
     → IsEndedLine old.limit (most_of old) (old.held ++ moved) v new ⊎ IsLastLine old.limit (most_of old) (old.held ++ moved) v new
     → NextLine limit total bytes new left' lines (old.held ++ p.to_come) v
 more_by limit total bytes old new left left' lines v moved p moves end none (inl e) = more_ended limit total bytes old new left left' lines v moved p moves none e
 more_by limit total bytes old new left left' lines v moved p moves end none (inr e) = more_last limit total bytes old new left left' lines v moved p moves none e (end e.ended)
 
-pub ReadSoFar-more : (limit total : ℕ) (bytes : List ℕ) (old new : Reading) (left left' : Option (List ℕ)) (lines : List (List ℕ)) (v : Vec ℕ Global)
+pub ReadSoFar-more : (limit total : ℕ) (bytes : List ℕ) (old new : LineReaderState) (left left' : Option (List ℕ)) (lines : List (List ℕ)) (v : Vec ℕ Global)
     → (p : ReadSoFar limit total bytes old left lines) → Given old new left left' (Some v) → (old.ended ≡ true → IsAtEnd left)
     → NextLine limit total bytes new left' lines (old.held ++ p.to_come) v.items
 ReadSoFar-more limit total bytes old new left left' lines v p g was =
     more_by limit total bytes old new left left' lines v.items g.moved p g.moves (λ e. g.at_end e was) g.given.0 g.given.1
 
 -- where none is given, nothing is to come
-pub ReadSoFar-none : (limit total : ℕ) (bytes : List ℕ) (old new : Reading) (left left' : Option (List ℕ)) (lines : List (List ℕ))
+pub ReadSoFar-none : (limit total : ℕ) (bytes : List ℕ) (old new : LineReaderState) (left left' : Option (List ℕ)) (lines : List (List ℕ))
     → (p : ReadSoFar limit total bytes old left lines) → Given old new left left' None → (old.ended ≡ true → IsAtEnd left) → lines ≡ lines_of bytes
 ReadSoFar-none limit total bytes old new left left' lines p g was =
     let pull = pulled_from left left' p.to_come g.moved p.is_left g.moves.gone in
@@ -163,7 +163,7 @@ ReadSoFar-none limit total bytes old new left left' lines p g was =
     ap (λ l. old.held ++ l) pull.whole ∙ sym (append_assoc old.held g.moved pull.rest) ∙ ap (λ l. l ++ pull.rest) g.given.0 ∙ nothing in
     sym (p.lines_are ∙ ap (λ l. lines ++ lines_of l) shape ∙ append-nil lines)
 
-pub ReadSoFar-within : (limit total : ℕ) (bytes : List ℕ) (old new : Reading) (left left' : Option (List ℕ)) (lines : List (List ℕ))
+pub ReadSoFar-within : (limit total : ℕ) (bytes : List ℕ) (old new : LineReaderState) (left left' : Option (List ℕ)) (lines : List (List ℕ))
     → (p : ReadSoFar limit total bytes old left lines) → Given old new left left' None → (old.ended ≡ true → IsAtEnd left) → All (λ line. length line ≤ limit) (lines_of bytes) × (length bytes ≤ total)
 ReadSoFar-within limit total bytes old new left left' lines p g was =
     let pull = pulled_from left left' p.to_come g.moved p.is_left g.moves.gone in

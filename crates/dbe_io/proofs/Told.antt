@@ -4,7 +4,7 @@ use Rattle.std.specs.declared.alloc.Global.{Global}
 use Rattle.std.specs.declared.option.Option.{Option}
 use Rattle.std.specs.Io.KnownBytes.{IsAtEnd}
 use Rattle.dbe_io.specs.Lines.{lines_of, first_piece, HasNone, IsTooLong, IsTooMuch}
-use Rattle.dbe_io.specs.Reading.{Reading, Given, IsEndedLine, IsLastLine, most_of}
+use Rattle.dbe_io.specs.Reading.{LineReaderState, Given, IsEndedLine, IsLastLine, most_of}
 use Rattle.dbe_io.proofs.Pieces.{first_piece-line, first_piece-none}
 use Rattle.dbe_io.proofs.LineLaws.{lines_of-ended, lines_of-last}
 
@@ -21,7 +21,7 @@ pub IsNextLine-none : (bytes rest : List ℕ) → IsNextLine bytes rest None →
 IsNextLine-none bytes rest (e, nothing) = ap lines_of e
 
 -- told bytes: what is given of them, and what stays
-pub record Told (old new : Reading) (bytes : List ℕ) (left' : Option (List ℕ)) (line : Option (Vec ℕ Global)) : Type 0 where
+pub record Told (old new : LineReaderState) (bytes : List ℕ) (left' : Option (List ℕ)) (line : Option (Vec ℕ Global)) : Type 0 where
   pub rest : List ℕ
   pub left_is : left' ≡ Some rest
   pub next : IsNextLine (old.held ++ bytes) (new.held ++ rest) line
@@ -40,7 +40,7 @@ within_last limit most line none short within =
     let piece : length (first_piece line) ≡ length line = ap length (first_piece-none line none) in
     (λ long. absurd (let past : limit < length (first_piece line) = long.0 in omega arith), λ much. absurd (let past : most < length line = much.more in omega arith))
 
-told_line : (old new : Reading) (bytes rest : List ℕ) (v : Vec ℕ Global) → (p : Given old new (Some bytes) (Some rest) (Some v)) → (old.ended ≡ true → bytes ≡ [])
+told_line : (old new : LineReaderState) (bytes rest : List ℕ) (v : Vec ℕ Global) → (p : Given old new (Some bytes) (Some rest) (Some v)) → (old.ended ≡ true → bytes ≡ [])
     → HasNone 10 v.items → IsEndedLine old.limit (most_of old) (old.held ++ p.moved) v.items new ⊎ IsLastLine old.limit (most_of old) (old.held ++ p.moved) v.items new
     → Told old new bytes (Some rest) (Some v)
 told_line old new bytes rest v p was none (inl line) =
@@ -67,7 +67,7 @@ told_line old new bytes rest v p was none (inr line) =
       not_too_much = rw all within.1;
     }
 
-pub Given-told : (old new : Reading) (bytes : List ℕ) (left' : Option (List ℕ)) (line : Option (Vec ℕ Global))
+pub Given-told : (old new : LineReaderState) (bytes : List ℕ) (left' : Option (List ℕ)) (line : Option (Vec ℕ Global))
     → Given old new (Some bytes) left' line → (old.ended ≡ true → bytes ≡ []) → Told old new bytes left' line
 Given-told old new bytes None line p was = absurd p.moves.gone
 Given-told old new bytes (Some rest) None p was =
@@ -83,7 +83,7 @@ Given-told old new bytes (Some rest) None p was =
     }
 Given-told old new bytes (Some rest) (Some v) p was = told_line old new bytes rest v p was p.given.0 p.given.1
 
-pub Given-within : (old new : Reading) (left left' : Option (List ℕ)) (line : Option (Vec ℕ Global)) → Given old new left left' line → (old.ended ≡ true → IsAtEnd left)
+pub Given-within : (old new : LineReaderState) (left left' : Option (List ℕ)) (line : Option (Vec ℕ Global)) → Given old new left left' line → (old.ended ≡ true → IsAtEnd left)
     → IfSome left (λ bytes. (¬ IsTooLong old.limit (most_of old) (old.held ++ bytes)) × (¬ IsTooMuch old.limit (most_of old) (old.held ++ bytes)))
 Given-within old new None left' line p was = tt
 Given-within old new (Some bytes) left' line p was = let told = Given-told old new bytes left' line p was in (told.not_too_long, told.not_too_much)

@@ -1,4 +1,4 @@
--- The lines of bytes. A newline is the byte 10.
+-- The lines of bytes (this project's own). A newline is the byte 10.
 use Rattle.std.specs.Prelude.{ℕ, ◌≡◌, ◌≢◌, ◌==◌, ◌<◌, ◌≤◌, List, [], ◌∷◌, if◌then◌else◌, length, slice_index, EachIndex}
 
 -- b at the front of the first line
@@ -26,14 +26,15 @@ abbrev pub first_piece : List ℕ → List ℕ
 first_piece [] = []
 first_piece (b ∷ bytes) = if b == 10 then [] else b ∷ first_piece bytes
 
+-- b is not among the bytes
 abbrev pub HasNone : ℕ → List ℕ → Type 0
 HasNone b bytes = EachIndex bytes (λ k. slice_index bytes k ≢ b)
 
--- The line at the front of bytes, of which the first `most` lie within the reader's total: more than `limit` of its bytes lie within them.
+-- Of bytes the first `most` lie within the reader's total. The line at their front has more than `limit` bytes within them.
 abbrev pub IsTooLong : ℕ → ℕ → List ℕ → Type 0
 IsTooLong limit most bytes = (limit < length (first_piece bytes)) × (limit < most)
 
--- It is not too long, does not end within the first `most` bytes, and more follow them.
+-- That line is not too long, does not end within the first `most` bytes, and more bytes follow them.
 pub record IsTooMuch (limit most : ℕ) (bytes : List ℕ) : Type 0 where
   pub not_too_long : ¬ IsTooLong limit most bytes
   pub no_end : most ≤ length (first_piece bytes)

@@ -1,4 +1,4 @@
--- What contracts see of a reader of lines, and what one call of it does.
+-- What contracts see of a reader of lines, and what one call of it does (this project's own).
 use Rattle.std.specs.Prelude.{ℕ, ◌≡◌, ◌≢◌, ◌+◌, ◌-◌, ◌<◌, ◌≤◌, ◌⊎◌, Bool, true, false, List, [], ◌∷◌, ◌++◌, length, Vec, Some, None}
 use Rattle.std.specs.declared.alloc.Global.{Global}
 use Rattle.std.specs.declared.option.Option.{Option}
@@ -8,7 +8,7 @@ use Rattle.dbe_io.specs.declared.lines.LineFault.TheVariants.{Memory, Read, Line
 use Rattle.dbe_io.specs.Lines.{HasNone, IsTooLong, IsTooMuch}
 
 -- a reader of lines
-pub record Reading : Type 0 where
+pub record LineReaderState : Type 0 where
   pub limit : ℕ  -- the most bytes of a line
   pub total : ℕ  -- the most bytes of the source
   pub held : List ℕ  -- the bytes taken and not yet given
@@ -17,39 +17,39 @@ pub record Reading : Type 0 where
   pub fault : Option LineFault  -- the fault that was answered
 
 -- What is always so of a reader. It takes at most one byte past its total, and holds at most one past its limit.
-pub record IsReading (r : Reading) : Type 0 where
+pub record IsLineReaderState (r : LineReaderState) : Type 0 where
   pub given : r.taken ≤ r.total + length r.held
   pub taken : r.taken ≤ r.total + 1
   pub held : length r.held ≤ r.limit + 1
   pub ended : r.ended ≡ true → (r.held ≡ []) × (r.fault ≡ None)
 
--- A reader asks its source nothing where it has ended, has answered a fault, or holds a whole line.
-abbrev pub AsksNothing : Reading → Type 0
-AsksNothing r = (r.ended ≡ true) ⊎ ((r.fault ≢ None) ⊎ (¬ HasNone 10 r.held))
+-- the reader has ended, has answered a fault, or holds a whole line, so the next call needs no bytes of the source
+abbrev pub NeedsNoBytes : LineReaderState → Type 0
+NeedsNoBytes r = (r.ended ≡ true) ⊎ ((r.fault ≢ None) ⊎ (¬ HasNone 10 r.held))
 
 -- how many bytes, from the first that is held, lie within the total
-abbrev pub most_of : Reading → ℕ
+abbrev pub most_of : LineReaderState → ℕ
 most_of r = (r.total + length r.held) - r.taken
 
 -- how many bytes the reader may still give
-abbrev pub budget : Reading → ℕ
+abbrev pub budget : LineReaderState → ℕ
 budget r = (r.total + 1 + length r.held) - r.taken
 
 -- bytes moved from the source to the reader
-pub record Moved (old new : Reading) (left left' : Option (List ℕ)) (bytes : List ℕ) : Type 0 where
+pub record Moved (old new : LineReaderState) (left left' : Option (List ℕ)) (bytes : List ℕ) : Type 0 where
   pub gone : Consumes left left' bytes
   pub taken : new.taken ≡ old.taken + length bytes
   pub limit : new.limit ≡ old.limit
   pub total : new.total ≡ old.total
 
 -- bytes are a line, its newline and what the reader holds from then on
-pub record IsEndedLine (limit most : ℕ) (bytes line : List ℕ) (new : Reading) : Type 0 where
+pub record IsEndedLine (limit most : ℕ) (bytes line : List ℕ) (new : LineReaderState) : Type 0 where
   pub whole : bytes ≡ line ++ 10 ∷ new.held
   pub short : length line ≤ limit
   pub within : length line < most
 
 -- bytes are a last line, which no newline ends
-pub record IsLastLine (limit most : ℕ) (bytes line : List ℕ) (new : Reading) : Type 0 where
+pub record IsLastLine (limit most : ℕ) (bytes line : List ℕ) (new : LineReaderState) : Type 0 where
   pub whole : bytes ≡ line
   pub some : 0 < length line
   pub none_left : new.held ≡ []
@@ -58,12 +58,12 @@ pub record IsLastLine (limit most : ℕ) (bytes line : List ℕ) (new : Reading)
   pub within : length line ≤ most
 
 -- what a call gives of the bytes that it holds and has taken: a line without its newline, or none at the end
-abbrev pub IsGiven : ℕ → ℕ → List ℕ → Option (Vec ℕ Global) → Reading → Type 0
+abbrev pub IsGiven : ℕ → ℕ → List ℕ → Option (Vec ℕ Global) → LineReaderState → Type 0
 IsGiven limit most bytes None new = (bytes ≡ []) × (new.held ≡ []) × (new.ended ≡ true)
 IsGiven limit most bytes (Some v) new = HasNone 10 v.items × (IsEndedLine limit most bytes v.items new ⊎ IsLastLine limit most bytes v.items new)
 
 -- a call that was Ok
-pub record Given (old new : Reading) (left left' : Option (List ℕ)) (line : Option (Vec ℕ Global)) : Type 0 where
+pub record Given (old new : LineReaderState) (left left' : Option (List ℕ)) (line : Option (Vec ℕ Global)) : Type 0 where
   pub no_fault : old.fault ≡ None
   pub none_now : new.fault ≡ None
   pub moved : List ℕ
@@ -79,7 +79,7 @@ IsCause limit most held LineTooLong = IsTooLong limit most held
 IsCause limit most held TooMuch = IsTooMuch limit most held
 
 -- a call that gave up, for the first time
-pub record GaveUp (old new : Reading) (left left' : Option (List ℕ)) (fault : LineFault) : Type 0 where
+pub record GaveUp (old new : LineReaderState) (left left' : Option (List ℕ)) (fault : LineFault) : Type 0 where
   pub no_fault : old.fault ≡ None
   pub not_ended : old.ended ≡ false
   pub fault_now : new.fault ≡ Some fault
@@ -88,11 +88,12 @@ pub record GaveUp (old new : Reading) (left left' : Option (List ℕ)) (fault : 
   pub held : new.held ≡ old.held ++ moved
   pub cause : IsCause old.limit (most_of old) new.held fault
 
--- a call after one that gave up
-pub record StaysUp (old new : Reading) (left left' : Option (List ℕ)) (fault : LineFault) : Type 0 where
+-- a call after one that gave up: it answers the same fault, and nothing changes
+pub record AnswersFaultAgain (old new : LineReaderState) (left left' : Option (List ℕ)) (fault : LineFault) : Type 0 where
   pub fault_then : old.fault ≡ Some fault
   pub same : new ≡ old
   pub kept : Keeps left left'
 
-abbrev pub Stops : Reading → Reading → Option (List ℕ) → Option (List ℕ) → LineFault → Type 0
-Stops old new left left' fault = StaysUp old new left left' fault ⊎ GaveUp old new left left' fault
+-- a call that answers a fault, again or for the first time
+abbrev pub Stops : LineReaderState → LineReaderState → Option (List ℕ) → Option (List ℕ) → LineFault → Type 0
+Stops old new left left' fault = AnswersFaultAgain old new left left' fault ⊎ GaveUp old new left left' fault

@@ -12,7 +12,7 @@ enum Opened<F> {
     Failing,
 }
 
-/// A file, of which no bytes are told.
+/// A file that is read from its front, of which no bytes are told.
 #[derive(Drop)]
 pub struct FileSource<F> {
     opened: Opened<F>,
@@ -20,8 +20,9 @@ pub struct FileSource<F> {
 }
 
 impl<F: Read + Drop> FileSource<F> {
-    /// A missing file is empty where `absent_is_empty`. Of any other file that does not open each
-    /// read fails.
+    /// Opens the file of a name for reading. A missing file counts as an empty one where
+    /// `absent_is_empty` says so. Of any other file that does not open each read fails, so this call
+    /// itself answers no error. The source has not failed yet.
     pub fn new<R: Files<File = F>>(rt: &R, name: &str, absent_is_empty: bool) -> FileSource<F>
         ensures { ⟦<FileSource<F> as Source>⟧.faults result ≡ 0 }
     {

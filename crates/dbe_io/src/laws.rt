@@ -3,7 +3,7 @@ ghost use Rattle.std.specs.declared.alloc.Global.{Global};
 ghost use Rattle.std.specs.declared.option.Option.{Option};
 ghost use Rattle.std.specs.Io.KnownBytes.{IsAtEnd};
 ghost use Rattle.dbe_io.specs.Lines.{lines_of, ended_lines, HasNone, IsWhole, IsTooLong, IsTooMuch};
-ghost use Rattle.dbe_io.specs.Reading.{Reading, Given, most_of};
+ghost use Rattle.dbe_io.specs.Reading.{LineReaderState, Given, most_of};
 
 /// An ended line in front of others is the first of their lines.
 pub fn an_ended_line_comes_first()
@@ -32,6 +32,6 @@ pub fn too_much_stays()
 
 /// What a reader gives of told bytes is within the limits of all of them.
 pub fn what_is_given_is_within_the_limits()
-    ensures { (old new : Reading) (left left' : Option (List ℕ)) (line : Option (Vec ℕ Global)) → Given old new left left' line → (old.ended ≡ true → IsAtEnd left)
+    ensures { (old new : LineReaderState) (left left' : Option (List ℕ)) (line : Option (Vec ℕ Global)) → Given old new left left' line → (old.ended ≡ true → IsAtEnd left)
         → IfSome left (λ bytes. (¬ IsTooLong old.limit (most_of old) (old.held ++ bytes)) × (¬ IsTooMuch old.limit (most_of old) (old.held ++ bytes))) }
 {}

@@ -2,7 +2,7 @@ ghost use Rattle.std.specs.Prelude.{◌≡◌, ◌≢◌, ◌≤◌, ◌<◌, �
 ghost use Rattle.std.specs.Io.KnownBytes.{IsAtEnd, Keeps};
 ghost use Rattle.dbe_io.specs.Causes.{Rose};
 ghost use Rattle.dbe_io.specs.Lines.{first_piece, HasNone};
-ghost use Rattle.dbe_io.specs.Reading.{AsksNothing, Given, IsReading, Stops, IsCause, budget, most_of};
+ghost use Rattle.dbe_io.specs.Reading.{NeedsNoBytes, Given, IsLineReaderState, Stops, IsCause, budget, most_of};
 ghost use Rattle.dbe_io.specs.Steps.{IsLineAt, IsOpen, Took, Refused, reads_left};
 
 use crate::Source;
@@ -11,20 +11,25 @@ use dbe_num::Memory;
 use std::alloc::Global;
 use std::marker::Model;
 
-/// Why a line was not given.
+/// Why a line was not given. The limits are those that the reader was made with.
 #[derive(Clone, Copy, Debug, PartialEq, Eq)]
 pub enum LineFault {
     /// Memory ran out.
     Memory,
-    /// The source failed.
+    /// The source failed, and the bytes that were taken and not yet given hold no newline and neither
+    /// of the causes below.
     Read,
-    /// A line has more bytes than the limit.
+    /// The line has more than `limit` bytes, of which the first `limit + 1` are among the first
+    /// `total` bytes of the source.
     LineTooLong,
-    /// The source has more bytes than the total, and the line does not end within it.
+    /// The line is not `LineTooLong`, it does not end within the first `total` bytes of the source, its
+    /// newline included, and more bytes follow them.
     TooMuch,
 }
 
 /// The lines of a source, each within a limit, and all within a total.
+///
+/// Contracts see the record `LineReaderState`.
 #[derive(Drop)]
 pub struct LineReader {
     limit: usize,
@@ -36,19 +41,22 @@ pub struct LineReader {
 }
 
 impl Model for LineReader {
-    ghost use Rattle.dbe_io.specs.Reading.{Reading, IsReading};
+    ghost use Rattle.dbe_io.specs.Reading.{LineReaderState, IsLineReaderState};
 
-    ghost Value = { Reading };
+    ghost Value = { LineReaderState };
 
     ghost use Rattle.std.specs.Prelude.{◌+◌, length};
 
     ghost view = { λ r. record { limit = r.limit; total = r.total; held = r.held; taken = r.given + length r.held; ended = r.ended; fault = r.fault } };
 
-    ghost invariant = { λ r. IsReading (record { limit = r.limit; total = r.total; held = r.held; taken = r.given + length r.held; ended = r.ended; fault = r.fault }) };
+    ghost invariant = { λ r. IsLineReaderState (record { limit = r.limit; total = r.total; held = r.held; taken = r.given + length r.held; ended = r.ended; fault = r.fault }) };
 }
 
 impl LineReader {
-    /// A reader of lines of at most `limit` bytes, which takes at most `total` bytes and one more.
+    /// A reader of lines of at most `limit` bytes, without their newlines, among the first `total`
+    /// bytes of a source. It takes at most one byte past them. Both may be 0.
+    ///
+    /// `Memory`: the room for a block of 65,536 bytes could not be had.
     pub fn new(alloc: Global, limit: usize, total: u64) -> Result<LineReader, Memory>
         ensures { IfOk result (λ r. r ≡ record { limit = limit; total = total; held = []; taken = 0; ended = false; fault = None }) }
     {
@@ -62,9 +70,12 @@ impl LineReader {
         })
     }
 
-    /// The next line without its newline, and none at the end. A last piece without a newline is a
-    /// line. After a fault each later call answers the same fault. The source is asked only where no
-    /// whole line is held, and not again at its end or after a fault.
+    /// The next line without its newline, and none at the end of the source. A last piece without a
+    /// newline is a line. The source is asked only where no whole line is held when the call begins,
+    /// and not again at its end or after a fault.
+    ///
+    /// Each fault has the cause that `LineFault` names. What was taken of the source stays held then,
+    /// and each later call answers the same fault, `Memory` too.
     pub fn next<S: Source>(&mut self, source: &mut S) -> Result<Option<Vec<u8>>, LineFault>
         ensures line { IfOk result (Given self.old self.new (S.left source.old) (S.left source.new)) }
         ensures stop { IfErr result (Stops self.old self.new (S.left source.old) (S.left source.new)) }
@@ -72,8 +83,8 @@ impl LineReader {
         ensures later { S.faults source.old ≤ S.faults source.new }
         ensures read { IsErrOf result LineFault.Read → (self.old.fault ≡ Some LineFault.Read) ⊎ Rose (S.faults source.old) (S.faults source.new) }
         ensures ended { self.old.ended ≡ true → (result ≡ Ok None) × (self.new ≡ self.old) }
-        ensures unasked { AsksNothing self.old → source.new ≡ source.old }
-        ensures within { IsReading self.new }
+        ensures unasked { NeedsNoBytes self.old → source.new ≡ source.old }
+        ensures within { IsLineReaderState self.new }
     {
         if let Some(fault) = self.fault {
             return Err(fault);

@@ -1,4 +1,4 @@
-ghost use Rattle.std.specs.Prelude.{◌≡◌, ◌≢◌, ◌⊎◌, ◌-◌, ◌≤◌, ◌<◌, [], Some, Ok, true, false, length, min, is_ok, is_err, IfOk, OnErr};
+ghost use Rattle.std.specs.Prelude.{◌≡◌, ◌-◌, ◌≤◌, [], Some, true, false, length, min, is_ok, is_err, IfOk, OnErr};
 ghost use Rattle.dbe_io.specs.Causes.{HasCause, TookNothing};
 ghost use Rattle.dbe_io.specs.Memory.{counted, fails_at, one_more};
 ghost use Rattle.dbe_io.specs.Prefix.{Takes};
@@ -9,6 +9,8 @@ use std::alloc::Global;
 use std::marker::Model;
 
 /// A sink in memory with a room that never grows, whose calls fail by a plan.
+///
+/// Contracts see the record `SinkInMemory`.
 #[derive(Drop)]
 pub struct MemSink {
     bytes: Vec<u8>,
@@ -22,9 +24,9 @@ pub struct MemSink {
 }
 
 impl Model for MemSink {
-    ghost use Rattle.dbe_io.specs.Memory.{Taking};
+    ghost use Rattle.dbe_io.specs.Memory.{SinkInMemory};
 
-    ghost Value = { Taking };
+    ghost Value = { SinkInMemory };
 
     ghost use Rattle.std.specs.Prelude.{◌≤◌, vec_len, vec_capacity};
 
@@ -34,15 +36,20 @@ impl Model for MemSink {
 }
 
 impl MemSink {
-    /// Takes `room` bytes in all. The k-th call, from 1, of `write` and `finish` fails where k is in
-    /// `fails`, and no other.
+    /// A sink that takes `room` bytes in all, which may be 0. A write takes as much of its piece as
+    /// the room still holds, and nothing where that is none.
+    ///
+    /// `fails` is the plan of failures: the k-th call of `write` and `finish` together, counted from
+    /// 1, fails exactly where k is in it, and takes nothing then. An empty list lets no call fail.
+    ///
+    /// `Memory`: the room could not be had.
     pub fn new(alloc: Global, room: usize, fails: Vec<u64>) -> Result<MemSink, Memory>
         ensures { IfOk result (λ sink. sink ≡ record { written = []; room = room; most = usize.MAX; calls = 0; fails = fails.items; faults = 0; idle = 0; finished = false }) }
     {
         MemSink::in_pieces(alloc, usize::MAX, room, fails)
     }
 
-    /// Takes at most `most` bytes in a call, and none where `most` is 0.
+    /// As `new`, but each write takes at most `most` bytes, and so nothing where `most` is 0.
     pub fn in_pieces(
         alloc: Global,
         most: usize,
@@ -90,8 +97,6 @@ impl Sink for MemSink {
         ensures planned { is_err result ≡ fails_at self.old.fails self.new.calls }
         ensures same { self.new ≡ record self.old { written = self.new.written; calls = self.new.calls; faults = self.new.faults; idle = self.new.idle; finished = self.new.finished } }
         ensures faults { self.new.faults ≡ counted (is_err result) self.old.faults }
-        ensures idled { result ≡ Ok 0 → 0 < length piece.now → self.new.idle ≡ one_more self.old.idle }
-        ensures not_idled { (result ≢ Ok 0) ⊎ (length piece.now ≡ 0) → self.new.idle ≡ self.old.idle }
         ensures failed { OnErr result (self.new.written ≡ self.old.written) }
         ensures count { IfOk result (λ n. n ≡ min (min (length piece.now) self.old.most) (self.old.room - length self.old.written)) }
     {
@@ -115,7 +120,7 @@ impl Sink for MemSink {
     fn finish(&mut self) -> Result<(), Failed>
         ensures written { self.new.written ≡ self.old.written }
         ensures cause { HasCause self.old.faults self.new.faults result }
-        ensures idle { self.old.idle ≤ self.new.idle }
+        ensures idle { self.new.idle ≡ self.old.idle }
         ensures finished { self.new.finished ≡ is_ok result }
         ensures calls { self.new.calls ≡ one_more self.old.calls }
         ensures planned { is_err result ≡ fails_at self.old.fails self.new.calls }

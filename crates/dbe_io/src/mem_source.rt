@@ -8,6 +8,8 @@ use crate::{Failed, Source};
 use std::marker::Model;
 
 /// A source in memory, whose calls fail by a plan.
+///
+/// Contracts see the record `SourceInMemory`.
 #[derive(Drop)]
 pub struct MemSource {
     bytes: Vec<u8>,
@@ -19,9 +21,9 @@ pub struct MemSource {
 }
 
 impl Model for MemSource {
-    ghost use Rattle.dbe_io.specs.Memory.{Giving};
+    ghost use Rattle.dbe_io.specs.Memory.{SourceInMemory};
 
-    ghost Value = { Giving };
+    ghost Value = { SourceInMemory };
 
     ghost use Rattle.std.specs.Prelude.{◌<◌, ◌≤◌, drop, length};
 
@@ -31,14 +33,17 @@ impl Model for MemSource {
 }
 
 impl MemSource {
-    /// Gives these bytes. The k-th call, from 1, fails where k is in `fails`, and no other.
+    /// A source of these bytes. Each call gives as many of them as are left and have room.
+    ///
+    /// `fails` is the plan of failures: the k-th call of `read`, counted from 1, fails exactly where
+    /// k is in it. An empty list lets no call fail.
     pub fn new(bytes: Vec<u8>, fails: Vec<u64>) -> MemSource
         ensures { result ≡ record { left = bytes.items; most = usize.MAX; calls = 0; fails = fails.items; faults = 0 } }
     {
         MemSource::in_pieces(bytes, usize::MAX, fails)
     }
 
-    /// Gives at most `most` of these bytes in a call.
+    /// As `new`, but each call gives at most `most` bytes, which is at least 1.
     pub fn in_pieces(bytes: Vec<u8>, most: usize, fails: Vec<u64>) -> MemSource
         requires { 0 < most }
         ensures { result ≡ record { left = bytes.items; most = most; calls = 0; fails = fails.items; faults = 0 } }

@@ -7,20 +7,28 @@ ghost use Rattle.dbe_io.specs.Prefix.{AppendsPrefix, Takes};
 use crate::Failed;
 
 /// What bytes go to.
+///
+/// A sink may tell the bytes that were written. It counts its failures, and the writes that took
+/// nothing.
 pub trait Sink {
-    /// The bytes that were written, where the sink tells them.
+    /// The bytes that were written, in their order, where the sink tells them.
     ghost written: { Self → Option (List ℕ) };
 
     /// How often it has failed. The count stays at its greatest value.
     ghost faults: { Self → ℕ };
 
-    /// How often it took nothing of a piece that has bytes. The count stays at its greatest value.
+    /// How many writes took nothing of a piece that has bytes. The count stays at its greatest value.
     ghost idle: { Self → ℕ };
 
     /// Whether the last call was a `finish` that was Ok.
     ghost finished: { Self → Bool };
 
-    /// Takes the front of the piece. Where it fails it may have taken some front too.
+    /// Takes a front of the piece and answers how many bytes that is, from none to all of them. The
+    /// sink is not finished then. `idle` rises by one where it takes none of a piece that has bytes,
+    /// and in no other case.
+    ///
+    /// `Failed`: the sink failed in this call, which `faults` counts. A front of the piece may be
+    /// written then too.
     fn write(&mut self, piece: &[u8]) -> Result<usize, Failed>
         ensures bound { IfOk result (λ n. n ≤ length piece.now) }
         ensures bytes { Takes (written self.old) (written self.new) result piece.now }
@@ -28,30 +36,37 @@ pub trait Sink {
         ensures idle { TookNothing (idle self.old) (idle self.new) result (length piece.now) }
         ensures unfinished { finished self.new ≡ false };
 
-    /// Hands on all that was written.
+    /// Hands on all that was written. The bytes that are told and `idle` stay as they were.
+    ///
+    /// `Failed`: the sink failed in this call, which `faults` counts. The sink is finished where the
+    /// call is Ok, and only there.
     fn finish(&mut self) -> Result<(), Failed>
         ensures written { written self.new ≡ written self.old }
         ensures cause { HasCause (faults self.old) (faults self.new) result }
-        ensures idle { idle self.old ≤ idle self.new }
+        ensures idle { idle self.new ≡ idle self.old }
         ensures finished { finished self.new ≡ is_ok result };
 }
 
 /// Why not all bytes were written.
 #[derive(Clone, Copy, Debug, PartialEq, Eq)]
 pub enum WriteFault {
-    /// The sink failed.
+    /// A write failed.
     Failed,
-    /// The sink took nothing of the bytes that were left.
+    /// A write took nothing of the bytes that were left.
     TookNothing,
 }
 
-/// Writes all the bytes, or a front of them where it answers a fault. Takes no memory, and asks the
-/// sink nothing where there are no bytes.
+/// Writes all the bytes, in as many pieces as the sink takes them. Takes no memory. Where there are no
+/// bytes it asks the sink nothing and is Ok; else the sink is not finished from then on.
+///
+/// Where it answers a fault, a front of the bytes was written, which may be none or all of them.
+/// `Failed`: the sink failed. `TookNothing`: a write took nothing; the sink's `idle` rises there alone.
 pub fn write_all<O: Sink>(sink: &mut O, bytes: &[u8]) -> Result<(), WriteFault>
     ensures ok { OnOk result (Appends (O.written sink.old) (O.written sink.new) bytes.now) }
     ensures prefix { AppendsPrefix (O.written sink.old) (O.written sink.new) bytes.now }
     ensures later { O.faults sink.old ≤ O.faults sink.new }
     ensures idle_later { O.idle sink.old ≤ O.idle sink.new }
+    ensures idle { ¬ IsErrOf result WriteFault.TookNothing → O.idle sink.new ≡ O.idle sink.old }
     ensures failed { IsErrOf result WriteFault.Failed → Rose (O.faults sink.old) (O.faults sink.new) }
     ensures took_nothing { IsErrOf result WriteFault.TookNothing → Rose (O.idle sink.old) (O.idle sink.new) }
     ensures unfinished { 0 < length bytes.now → O.finished sink.new ≡ false }

@@ -13,7 +13,8 @@ pub struct StdSink<P> {
 }
 
 impl<P: Print> StdSink<P> {
-    /// Prints by the runtime, or by its standard output.
+    /// Prints to `out`: the runtime, or its standard output. The sink has not failed yet, counts no
+    /// idle write, and is not finished.
     pub fn new(out: P) -> StdSink<P>
         ensures faults { ⟦<StdSink<P> as Sink>⟧.faults result ≡ 0 }
         ensures idle { ⟦<StdSink<P> as Sink>⟧.idle result ≡ 0 }

@@ -11,6 +11,7 @@ pub struct StdSource<I> {
 }
 
 impl<I: Read + Drop> StdSource<I> {
+    /// Reads the standard input of the runtime. The source has not failed yet.
     pub fn new<R: Input<Reader = I>>(rt: &R) -> StdSource<I>
         ensures { ⟦<StdSource<I> as Source>⟧.faults result ≡ 0 }
     {

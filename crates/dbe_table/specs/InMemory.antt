@@ -28,21 +28,23 @@ is_failed (Ok x) = false
 is_failed (Err Failed) = true
 is_failed (Err Memory) = false
 
--- how often a call failed
+-- 1 where a call answered that the table failed, else 0
 abbrev pub failed_count : {T : Type 0} → Result T TableFault → ℕ
 failed_count (Ok x) = 0
 failed_count (Err Failed) = 1
 failed_count (Err Memory) = 0
 
--- a number stands in its normal form
+-- a value that is a number stands in its normal form
 abbrev pub IsNormalValue : Val → Type 0
 IsNormalValue (v.number x) = IsNormal x
 IsNormalValue _ = ⊤
 
+-- a sort value that is a number stands in its normal form
 abbrev pub IsNormalSort : Option Val → Type 0
 IsNormalSort None = ⊤
 IsNormalSort (Some s) = IsNormalValue s
 
+-- the numbers of a key stand in their normal form
 abbrev pub IsNormalKey : Val × Option Val → Type 0
 IsNormalKey k = IsNormalValue k.0 × IsNormalSort k.1
 
@@ -56,7 +58,7 @@ abbrev pub IsHeldBy : Option KeySchema → List (KeyValue × Row) → Type 0
 IsHeldBy None es = es ≡ []
 IsHeldBy (Some schema) es = AreKeyed schema es
 
--- whether a key comes behind the last one
+-- whether a key comes behind the last one, where there is one
 abbrev pub is_next : Option (Val × Option Val) → Val × Option Val → Bool
 is_next None key = true
 is_next (Some last) key = is_lt (key_order last key)

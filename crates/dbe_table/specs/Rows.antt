@@ -33,10 +33,11 @@ row_at schema key (row ∷ rows) = if is_eq (key_order key (key_of schema row)) 
 abbrev pub wanted_rows : Wanted → List Row → List Row
 wanted_rows wanted rows = filter (wants wanted) rows
 
--- a count after a rise; it stays at its greatest value
+-- a count after a rise by n; it stays at its greatest value
 abbrev pub risen : ℕ → ℕ → ℕ
 risen count n = max count (min (count + n) (2 ^ 64 - 1))
 
+-- how many rows an answer holds that is a row or none
 abbrev pub found_count : {A : Type 0} → Option A → ℕ
 found_count None = 0
 found_count (Some a) = 1

@@ -54,15 +54,19 @@ impl Model for MemTable {
 }
 
 impl MemTable {
-    /// A table with no rows. The k-th call, from 1, fails where k is in `fails`, and no other.
+    /// A table with no rows.
+    ///
+    /// `fails` is the plan of failures: the k-th call of `begin`, `put`, `get` and `select` together,
+    /// counted from 1, fails where k is in it, and changes no row then. An empty list lets no call
+    /// fail.
     pub fn new(alloc: Global, fails: Vec<u64>) -> MemTable
         ensures { result ≡ record { coming = []; begun = None; rows = []; calls = 0; fails = fails.items; given = 0; faults = 0 } }
     {
         MemTable::of(alloc, Vec::new(alloc), fails)
     }
 
-    /// A table that begins with these rows. Its `begin` also fails where they are not rows with
-    /// lawful keys, each key once, in key order.
+    /// A table that begins with these rows. `fails` is as in `new`. Its `begin` also fails where they
+    /// are not rows with lawful keys, each key once, in key order.
     pub fn of(alloc: Global, rows: Vec<Item>, fails: Vec<u64>) -> MemTable
         ensures { result ≡ record { coming = rows.items; begun = None; rows = []; calls = 0; fails = fails.items; given = 0; faults = 0 } }
     {
@@ -78,15 +82,19 @@ impl MemTable {
         }
     }
 
-    /// A copy of the rows, in key order.
+    /// A copy of the rows, in key order. Before the table has begun there are none. The call is no
+    /// call of the plan, and is not counted.
+    ///
+    /// `Memory`: memory ran out.
     pub fn rows(&self, alloc: Global) -> Result<Vec<Item>, Memory>
-        ensures { IfOk result (λ rows. rows.items ≡ self.now.rows) }
+        ensures rows { IfOk result (λ rows. rows.items ≡ self.now.rows) }
+        ensures not_begun { self.now.begun ≡ None → IfOk result (λ rows. rows.items ≡ []) }
     {
         found_among(alloc, &self.rows, &Wanted::Every)
     }
 
-    // Whether this call fails by the plan.
-    fn fails_now(&mut self) -> bool
+    // Counts a call, and answers whether it fails by the plan; a failure is counted too.
+    fn count_call(&mut self) -> bool
         ensures kept { self.new ≡ record self.old { calls = one_more self.old.calls; faults = risen self.old.faults (if result then 1 else 0) } }
         ensures later { self.old.faults ≤ self.new.faults }
         ensures planned { result ≡ fails_at self.old.fails (one_more self.old.calls) }
@@ -111,6 +119,8 @@ impl Table for MemTable {
 
     ghost faults = { λ t. t.faults };
 
+    /// After `Failed` the rows that were to come are still to come. After `Memory` they may be gone:
+    /// where memory ran out while they were put under their keys, a later `begin` has no rows.
     fn begin(&mut self, schema: &KeySchema) -> Result<(), TableFault>
         requires { self.old.begun ≡ None }
         ensures begun { OnOk result (self.new.begun ≡ Some schema.now) }
@@ -128,7 +138,7 @@ impl Table for MemTable {
         ensures given { self.new.given ≡ self.old.given }
         ensures faults { self.new.faults ≡ risen self.old.faults (failed_count result) }
     {
-        if self.fails_now() {
+        if self.count_call() {
             return Err(TableFault::Failed);
         }
         if !is_table(self.alloc, schema, &self.coming)? {
@@ -151,7 +161,7 @@ impl Table for MemTable {
         ensures planned { is_failed result ≡ fails_at self.old.fails self.new.calls }
         ensures kept { self.new ≡ record self.old { rows = self.new.rows; calls = one_more self.old.calls; faults = risen self.old.faults (failed_count result) } }
     {
-        if self.fails_now() {
+        if self.count_call() {
             return Err(TableFault::Failed);
         }
         let Some(schema) = &self.begun else {
@@ -172,7 +182,7 @@ impl Table for MemTable {
         ensures not_given { OnErr result (self.new.given ≡ self.old.given) }
         ensures kept { self.new ≡ record self.old { calls = one_more self.old.calls; given = self.new.given; faults = risen self.old.faults (failed_count result) } }
     {
-        if self.fails_now() {
+        if self.count_call() {
             return Err(TableFault::Failed);
         }
         let Some(schema) = &self.begun else {
@@ -196,7 +206,7 @@ impl Table for MemTable {
         ensures not_given { OnErr result (self.new.given ≡ self.old.given) }
         ensures kept { self.new ≡ record self.old { calls = one_more self.old.calls; given = self.new.given; faults = risen self.old.faults (failed_count result) } }
     {
-        if self.fails_now() {
+        if self.count_call() {
             return Err(TableFault::Failed);
         }
         let found = found_among(self.alloc, &self.rows, wanted)?;

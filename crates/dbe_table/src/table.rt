@@ -14,7 +14,7 @@ use dbe_values::{Item, KeySchema, KeyValue};
 /// Why a table did not do what it was asked.
 #[derive(Clone, Copy, Debug, PartialEq, Eq)]
 pub enum TableFault {
-    /// The table failed.
+    /// The table failed in this call, which its count of failures tells.
     Failed,
     /// Memory ran out.
     Memory,
@@ -32,6 +32,8 @@ impl From<Memory> for TableFault {
 }
 
 /// Rows under keys, in key order.
+///
+/// A table may tell its rows. It counts its failures, and the rows that it hands out.
 pub trait Table {
     /// The rows that a `begin` with a schema tells, where the table tells them.
     ghost coming: { Self → KeySchema → Option (List Row) };
@@ -39,7 +41,7 @@ pub trait Table {
     /// The rows, from `begin` on, where the table tells them.
     ghost rows: { Self → Option (List Row) };
 
-    /// The schema of the `begin` that was Ok.
+    /// The schema of the `begin` that was Ok, and none before.
     ghost begun: { Self → Option KeySchema };
 
     /// How many rows it has handed out. The count stays at its greatest value.
@@ -48,7 +50,12 @@ pub trait Table {
     /// How often it has failed. The count stays at its greatest value.
     ghost faults: { Self → ℕ };
 
-    /// Begins, once and first. After a refusal the table need tell nothing.
+    /// Begins, with the schema of the rows' keys. The table must not have begun yet. Where it is Ok the
+    /// rows are those that the table told for this schema: rows with lawful keys, each key once, in
+    /// key order. `given` stays as it was.
+    ///
+    /// `Failed`: the table failed in this call, which `faults` counts. `Memory`: memory ran out.
+    /// After either the table has not begun, and need tell nothing of its rows.
     fn begin(&mut self, schema: &KeySchema) -> Result<(), TableFault>
         requires { begun self.old ≡ None }
         ensures begun { OnOk result (begun self.new ≡ Some schema.now) }
@@ -59,7 +66,11 @@ pub trait Table {
         ensures later { faults self.old ≤ faults self.new }
         ensures failed { result ≡ Err TableFault.Failed → Rose (faults self.old) (faults self.new) };
 
-    /// Puts a row in place of the one of its key.
+    /// Puts a row in place of the one of its key, or where its key belongs. The table must have begun,
+    /// and the row must have a lawful key for its schema. `given` stays as it was.
+    ///
+    /// `Failed`: the table failed in this call, which `faults` counts. `Memory`: memory ran out.
+    /// After either the rows are as before.
     fn put(&mut self, row: Item) -> Result<(), TableFault>
         requires begun { IsSome (begun self.old) }
         requires key { IfSome (begun self.old) (λ schema. has_key schema row ≡ true) }
@@ -70,7 +81,12 @@ pub trait Table {
         ensures later { faults self.old ≤ faults self.new }
         ensures failed { result ≡ Err TableFault.Failed → Rose (faults self.old) (faults self.new) };
 
-    /// The row that has a key, or none where no row has it.
+    /// The row that has a key, or none where no row has it. The table must have begun, and the key must
+    /// be lawful for its schema. The rows stay as they were, and `given` rises by one where a row is
+    /// answered. Whatever the table tells, that row has the key.
+    ///
+    /// `Failed`: the table failed in this call, which `faults` counts. `Memory`: memory ran out.
+    /// After either `given` is as before.
     fn get(&mut self, key: &KeyValue) -> Result<Option<Item>, TableFault>
         requires begun { IsSome (begun self.old) }
         requires key { IfSome (begun self.old) (λ schema. is_lawful_key schema (key_view key.now) ≡ true) }
@@ -83,7 +99,12 @@ pub trait Table {
         ensures later { faults self.old ≤ faults self.new }
         ensures failed { result ≡ Err TableFault.Failed → Rose (faults self.old) (faults self.new) };
 
-    /// The rows that are wanted, in key order.
+    /// The rows that are wanted, in key order. The table must have begun. Its rows stay as they were,
+    /// and `given` rises by the number of rows answered. Whatever the table tells, each of them has a
+    /// lawful key.
+    ///
+    /// `Failed`: the table failed in this call, which `faults` counts. `Memory`: memory ran out.
+    /// After either `given` is as before.
     fn select(&mut self, wanted: &Wanted) -> Result<Vec<Item>, TableFault>
         requires { IsSome (begun self.old) }
         ensures begun { begun self.new ≡ begun self.old }

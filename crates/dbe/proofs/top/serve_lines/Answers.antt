@@ -1,6 +1,6 @@
 use Rattle.std.proofs.Common.{◌≡◌, ◌∙◌, arith, refl, sym, ap, [], inl, inr, ◌++◌}
 use Rattle.std.proofs.lemmas.Bool.{false≢true}
-use Rattle.dbe_io.specs.Reading.{Reading}
+use Rattle.dbe_io.specs.Reading.{LineReaderState}
 use Rattle.dbe_io.specs.declared.lines.LineFault.TheVariants as f
 use Rattle.dbe.specs.declared.status.Status.TheVariants as s
 use Rattle.dbe_session.proofs.Counts.{risen_none}
@@ -17,11 +17,11 @@ lines-init g c =
     let is = c.in-Ok.ensures in record {
       run = λ bytes start told rows.
           Progress-start _ bytes start _ _ _ _ _
-          (ReadSoFar-start 1048576 1073741824 bytes c.in-Ok.reader _ (ap (λ (r : Reading). r.held) is) (ap (λ (r : Reading). r.taken) is) (ap (λ (r : Reading). r.limit) is) (ap (λ (r : Reading). r.total) is) told) rows (risen_none _);
+          (ReadSoFar-start 1048576 1073741824 bytes c.in-Ok.reader _ (ap (λ (r : LineReaderState). r.held) is) (ap (λ (r : LineReaderState). r.taken) is) (ap (λ (r : LineReaderState). r.limit) is) (ap (λ (r : LineReaderState). r.total) is) told) rows (risen_none _);
       script = λ bytes told.
-          ([], ReadSoFar-start 1048576 1073741824 bytes c.in-Ok.reader _ (ap (λ (r : Reading). r.held) is) (ap (λ (r : Reading). r.taken) is) (ap (λ (r : Reading). r.limit) is) (ap (λ (r : Reading). r.total) is) told);
-      at_end = λ e. absurd (false≢true (sym (ap (λ (r : Reading). r.ended) is) ∙ e));
-      no_fault = ap (λ (r : Reading). r.fault) is;
+          ([], ReadSoFar-start 1048576 1073741824 bytes c.in-Ok.reader _ (ap (λ (r : LineReaderState). r.held) is) (ap (λ (r : LineReaderState). r.taken) is) (ap (λ (r : LineReaderState). r.limit) is) (ap (λ (r : LineReaderState). r.total) is) told);
+      at_end = λ e. absurd (false≢true (sym (ap (λ (r : LineReaderState). r.ended) is) ∙ e));
+      no_fault = ap (λ (r : LineReaderState). r.fault) is;
       begun = refl;
       read = omega arith;
       table = omega arith;

@@ -1,4 +1,4 @@
-use Rattle.std.proofs.Common.{refl, arith, rules, length-drop}
+use Rattle.std.proofs.Common.{refl, ◌∙◌, arith, rules, length-drop}
 use Rattle.dbe_io.proofs.Fronts.{Appends-more, AppendsPrefix-more}
 use Rattle.dbe_io.proofs.sink.write_all.Goals as goal
 
@@ -9,7 +9,7 @@ pieces-preserved g c = record {
   later = search rules;
   unfinished = λ _. c.in-Ok.ensures.unfinished;
   untouched = λ none. absurd (c.in-Ok.count-test.1 (omega arith));
-  idle_later = search rules;
+  idle = c.in-Ok.ensures.idle.taken (omega (arith, c.in-Ok.count-test.1)) ∙ c.pieces.invariant.idle;
 }
 
 pub returns-in-Err-clause-prefix : goal.returns-in-Err-clause-prefix

@@ -9,7 +9,7 @@ invariant-pieces g l = record {
   later : g.O.Sink.faults l.fn.sink ≤ g.O.Sink.faults l.sink;
   unfinished : 0 < l.at → g.O.Sink.finished l.sink ≡ false;
   untouched : l.at ≡ 0 → l.sink ≡ l.fn.sink;
-  idle_later : g.O.Sink.idle l.fn.sink ≤ g.O.Sink.idle l.sink;
+  idle : g.O.Sink.idle l.sink ≡ g.O.Sink.idle l.fn.sink;
 }
 
 abbrev pub decreases-pieces : goal.decreases-pieces
