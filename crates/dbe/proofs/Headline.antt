@@ -13,9 +13,10 @@ use Rattle.dbe_values.specs.declared.key.KeySchema.{KeySchema}
 use Rattle.dbe_values.specs.Keys.{has_key, key_of, row_key, row_order}
 use Rattle.dbe_values.specs.KeyValues.{key_order-total}
 use Rattle.dbe_config.specs.Setting.{Setting}
-use Rattle.dbe_item.specs.Acceptance.{put_fault, or_next, key_fault}
+use Rattle.dbe_item.specs.Acceptance.{put_fault, or_next, fault_of_key}
 use Rattle.dbe_item.specs.declared.fault.PutFault.{PutFault}
 use Rattle.std.specs.Prelude.{is_ok}
+use Rattle.std.specs.Result.{result_err}
 use Rattle.dbe_values.specs.Val.{Val}
 use Rattle.dbe_cond.proofs.Readings.{reads_unique, not_refused}
 use Rattle.dbe_cond.specs.Condition.{Condition}
@@ -141,7 +142,7 @@ are_rows_refl [] = tt
 are_rows_refl (i ∷ is) = (refl, are_rows_refl is)
 
 -- an acceptable item has a lawful key
-key_of_fault : (k : Result (Val × Option Val) (List ℕ)) (rest : Option PutFault) → or_next (key_fault k) rest ≡ None → is_ok k ≡ true
+key_of_fault : (k : Result (Val × Option Val) (List ℕ)) (rest : Option PutFault) → or_next (fault_of_key (result_err k)) rest ≡ None → is_ok k ≡ true
 key_of_fault (Ok k) rest is = refl
 key_of_fault (Err name) rest is = absurd (cc)
 

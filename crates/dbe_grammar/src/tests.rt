@@ -190,29 +190,23 @@ fn each_changed_token_has_its_place(rt: HostRuntime) -> Result<(), Fail> {
     Ok(())
 }
 
-/// What is printed for a text that is a condition.
+/// The kinds of the tokens that are printed for a condition.
 fn reprinted(alloc: Global, text: &[u8]) -> Result<Vec<u8>, Fail> {
-    let tokens = cut(alloc, text)?.tokens;
+    let tree = parse(alloc, cut(alloc, text)?.tokens.as_slice())?;
     let mut out = Items::new(alloc);
+    print(&mut out, &tree)?;
+    kinds(alloc, out.as_slice())
+}
+
+fn kinds(alloc: Global, tokens: &[Token]) -> Result<Vec<u8>, Fail> {
     let mut kinds = Vec::new(alloc);
-    if let Ok(tree) = parse(alloc, tokens.as_slice()) {
-        print(&mut out, &tree)?;
-    }
-    for token in out.as_slice() {
+    for token in tokens {
         kinds.push(kind_of(*token))?;
     }
     Ok(kinds)
 }
 
-fn kinds(alloc: Global, text: &[u8]) -> Result<Vec<u8>, Fail> {
-    let mut kinds = Vec::new(alloc);
-    for token in cut(alloc, text)?.tokens {
-        kinds.push(kind_of(token))?;
-    }
-    Ok(kinds)
-}
-
-/// The kind of a token, by a letter, with operands told apart by their lengths.
+/// The kind of a token, by a letter; names, placeholders of names and values are told apart.
 fn kind_of(token: Token) -> u8 {
     match token {
         Token::Compare(_) => b'=',
@@ -251,15 +245,27 @@ fn parentheses_are_printed_where_they_are_needed(rt: HostRuntime) -> Result<(), 
         ),
         (b"not (not (a = b))", b"not not a = b"),
         (b"not ((a = b) and (a = c))", b"not (a = b and a = c)"),
-        (b"not (a between b and (c) or d in (e, :f))", b""),
+        (
+            b"not (a between b and c or d in (e, :f))",
+            b"not (a between b and c or d in (e, :f))",
+        ),
         (
             b"not (attribute_exists(#a) or (begins_with(a, :b) and attribute_not_exists(c)))",
             b"not (attribute_exists(#a) or begins_with(a, :b) and attribute_not_exists(c))",
         ),
     ];
     for (text, wanted) in table.iter() {
-        assert_eq!(rt; reprinted(alloc, text)?, kinds(alloc, wanted)?);
+        let wanted = cut(alloc, wanted)?.tokens;
+        assert_eq!(rt; reprinted(alloc, text)?, kinds(alloc, wanted.as_slice())?);
     }
+    Ok(())
+}
+
+#[test]
+fn an_operand_has_no_parentheses(rt: HostRuntime) -> Result<(), Fail> {
+    let alloc = rt.alloc();
+    let tokens = cut(alloc, b"not (a between b and (c) or d in (e, :f))")?.tokens;
+    assert_eq!(rt; place(alloc, tokens.as_slice()), 6);
     Ok(())
 }
 

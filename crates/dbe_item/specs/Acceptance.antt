@@ -1,10 +1,9 @@
 -- Which items may be stored (Amazon DynamoDB Developer Guide, "Service, account, and table quotas": 400 KB an item; how a size is
 -- counted and the other rules are this project's own).
-use Rattle.std.specs.Prelude.{ℕ, ◌+◌, Bool, List, [], ◌∷◌, length, nat_lt, is_none, sum_by, Option, Some, None, Result, Ok, Err, if◌then◌else◌}
-use Rattle.dbe_values.specs.Val.{Val}
+use Rattle.std.specs.Prelude.{ℕ, ◌+◌, Bool, List, [], ◌∷◌, length, nat_lt, is_none, sum_by, Option, Some, None, ⊤, if◌then◌else◌}
 use Rattle.dbe_values.specs.View.{view}
 use Rattle.dbe_values.specs.declared.value.AttrValue.{AttrValue}
-use Rattle.dbe_values.specs.Keys.{row_key}
+use Rattle.dbe_values.specs.Keys.{key_fault}
 use Rattle.dbe_canon.specs.Canon.{canon_of}
 use Rattle.dbe_config.specs.Setting.{Setting}
 use Rattle.dbe_config.specs.Actions.{is_reserved, action_for}
@@ -32,9 +31,9 @@ abbrev pub or_next : Option PutFault → Option PutFault → Option PutFault
 or_next (Some fault) next = Some fault
 or_next None next = next
 
-abbrev pub key_fault : Result (Val × Option Val) (List ℕ) → Option PutFault
-key_fault (Ok key) = None
-key_fault (Err name) = Some (f.Key name)
+abbrev pub fault_of_key : Option (List ℕ) → Option PutFault
+fault_of_key None = None
+fault_of_key (Some name) = Some (f.Key name)
 
 abbrev pub reserved_fault : Option (List ℕ) → Option PutFault
 reserved_fault None = None
@@ -51,8 +50,15 @@ fault_where broken fault = if broken then Some fault else None
 -- 1,000 attributes, more than 409,600 bytes. The first in this order counts.
 abbrev pub put_fault : Setting → List (List ℕ × AttrValue) → Option PutFault
 put_fault c item =
-    or_next (key_fault (row_key c.schema item))
+    or_next (fault_of_key (key_fault c.schema item))
     (or_next (reserved_fault (first_name is_reserved item))
     (or_next (unknown_fault (first_name (is_unknown c) item))
     (or_next (fault_where (nat_lt 1000 (length item)) f.TooMany)
     (fault_where (nat_lt 409600 (item_size item)) f.Size))))
+
+-- a refusal that names an attribute
+abbrev pub HasName : Option PutFault → Type 0
+HasName (Some (f.Key name)) = ⊤
+HasName (Some (f.Reserved name)) = ⊤
+HasName (Some (f.Unknown name)) = ⊤
+HasName _ = ⊥

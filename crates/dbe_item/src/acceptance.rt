@@ -1,28 +1,32 @@
-ghost use Rattle.std.specs.Prelude.{◌≡◌, ◌≢◌, ◌≤◌, ◌+◌, ◌^◌, ◌-◌, ℕ, List, Some, None, OnOk, IfErr, IfOk, option_map, min, nat_lt, is_none};
+ghost use Rattle.std.specs.Prelude.{◌≡◌, ◌≢◌, ◌≤◌, ◌+◌, ◌^◌, ◌-◌, ℕ, List, Some, None, Err, OnOk, IfErr, IfOk, option_map, min, nat_lt, is_none};
 ghost use Rattle.dbe_values.specs.View.{view};
 ghost use Rattle.dbe_config.specs.Actions.{is_reserved};
-ghost use Rattle.dbe_item.specs.Acceptance.{put_fault, first_name, is_unknown, attribute_size, item_size};
+ghost use Rattle.dbe_item.specs.Acceptance.{put_fault, HasName, first_name, is_unknown, attribute_size, item_size};
 
 use crate::PutFault;
 use dbe_canon::canon_len;
 use dbe_config::Config;
 use dbe_num::{Memory, Text};
-use dbe_values::{AttrValue, Item, KeyError, read_key};
+use dbe_values::{AttrValue, Item, key_fault};
 use std::alloc::Global;
 
 const MOST_ATTRIBUTES: usize = 1000;
 
 const MOST_BYTES: u64 = 409_600;
 
-/// Whether an item may be stored.
+/// Whether an item may be stored. Refused for the first of these that holds: no lawful key, a name that begins with
+/// `aws_dbe_`, a name that has no action, more than 1,000 attributes, more than 409,600 bytes. Memory is taken only
+/// for the name of a refusal.
 pub fn accepts(alloc: Global, config: &Config, item: &Item) -> Result<(), PutFault>
     ensures ok { OnOk result (put_fault config.now item.now ≡ None) }
     ensures err { IfErr result (λ f. f ≢ PutFault.Memory → put_fault config.now item.now ≡ Some f) }
+    ensures memory { result ≡ Err PutFault.Memory → HasName (put_fault config.now item.now) }
 {
-    match read_key(alloc, config.schema(), item) {
-        Ok(_) => {}
-        Err(KeyError::Bad { name }) => return Err(PutFault::Key { name }),
-        Err(KeyError::Memory) => return Err(PutFault::Memory),
+    if let Some(name) = key_fault(config.schema(), item) {
+        return match name.copy(alloc) {
+            Ok(name) => Err(PutFault::Key { name }),
+            Err(Memory) => Err(PutFault::Memory),
+        };
     }
     if let Some(name) = first_reserved(item) {
         return match name.copy(alloc) {

@@ -1,4 +1,4 @@
-use crate::{hkdf_law, hkdf512, hmac384, hmac512, output_law};
+use crate::{hkdf512, hmac384, hmac512};
 use sha2::{Digest, Sha512};
 use std::process::Abort;
 
@@ -131,10 +131,4 @@ fn derived_keys(rt: HostRuntime) {
         b"76216ba8cda13c92177217478e7821cb18c28fbe4e43c90b8e123933aded343e406e4e11063f3e5963daf7027d7cde76ee49544014ddcf919a02fec428d97920b2",
         b"eff10128628e4189945b52a53875bc46f111b5184374607974a50e3be1631d6c2ba6ff7cface3e341ce542fae64ad7382507cedd2326dccfac18970071c897e1",
     );
-}
-
-#[test]
-fn laws() {
-    hkdf_law();
-    output_law();
 }

@@ -54,26 +54,26 @@ fn words_are_told_apart(rt: HostRuntime) -> Result<(), Fail> {
     Ok(())
 }
 
-fn bad_place(alloc: std::alloc::Global, text: &[u8]) -> Option<usize> {
+fn bad_place(alloc: std::alloc::Global, text: &[u8]) -> Result<Option<usize>, TokenFault> {
     match cut(alloc, text) {
-        Ok(_) => None,
-        Err(TokenFault::Memory) => None,
-        Err(TokenFault::BadToken { at }) => Some(at),
+        Ok(_) => Ok(None),
+        Err(TokenFault::Memory) => Err(TokenFault::Memory),
+        Err(TokenFault::BadToken { at }) => Ok(Some(at)),
     }
 }
 
 #[test]
 fn the_first_bad_byte_is_named(rt: HostRuntime) -> Result<(), Fail> {
     let alloc = rt.alloc();
-    assert_eq!(rt; bad_place(alloc, b""), None);
-    assert_eq!(rt; bad_place(alloc, b" \t\r\n"), None);
-    assert_eq!(rt; bad_place(alloc, b"a = 1"), Some(4));
-    assert_eq!(rt; bad_place(alloc, b"a.b ! c"), Some(1));
-    assert_eq!(rt; bad_place(alloc, b"a # :"), Some(2));
-    assert_eq!(rt; bad_place(alloc, b"(:"), Some(1));
-    assert_eq!(rt; bad_place(alloc, b"a\x0b"), Some(1));
-    assert_eq!(rt; bad_place(alloc, b"a\xc3\xa9"), Some(1));
-    assert_eq!(rt; bad_place(alloc, b"\x00"), Some(0));
+    assert_eq!(rt; bad_place(alloc, b"")?, None);
+    assert_eq!(rt; bad_place(alloc, b" \t\r\n")?, None);
+    assert_eq!(rt; bad_place(alloc, b"a = 1")?, Some(4));
+    assert_eq!(rt; bad_place(alloc, b"a.b ! c")?, Some(1));
+    assert_eq!(rt; bad_place(alloc, b"a # :")?, Some(2));
+    assert_eq!(rt; bad_place(alloc, b"(:")?, Some(1));
+    assert_eq!(rt; bad_place(alloc, b"a\x0b")?, Some(1));
+    assert_eq!(rt; bad_place(alloc, b"a\xc3\xa9")?, Some(1));
+    assert_eq!(rt; bad_place(alloc, b"\x00")?, Some(0));
     Ok(())
 }
 
@@ -92,7 +92,7 @@ fn a_bad_byte_is_named_at_each_offset(rt: HostRuntime) -> Result<(), Fail> {
                 changed.push(if i == at { *bad } else { *byte })?;
             }
             assert_eq!(rt;
-                bad_place(alloc, changed.as_slice()),
+                bad_place(alloc, changed.as_slice())?,
                 Some(*wanted),
                 "byte {at}"
             );

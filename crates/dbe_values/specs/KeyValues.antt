@@ -1,5 +1,6 @@
 -- What a call that reads a key answers.
 use Rattle.std.specs.Prelude.{◌≡◌, ℕ, List, Option, option_map, Result, Ok, Err}
+use Rattle.std.specs.Borrow.{Bor}
 use Rattle.std.specs.declared.cmp.Ordering.{Ordering}
 use Rattle.std.specs.Ordering.{on}
 use Rattle.std.specs.Cmp.{IsTotalOrder, nat_cmp_total, int_cmp_total, on_total, then_total}
@@ -7,12 +8,18 @@ use Rattle.std.specs.Cmp.Lexicographic.{lists_total, options_total}
 use Rattle.dbe_values.specs.Val.{Val}
 use Rattle.dbe_values.specs.Keys.{type_rank, key_bytes, key_units, value_order, key_order}
 use Rattle.dbe_values.specs.View.{view}
+use Rattle.dbe_values.specs.declared.value.AttrValue.{AttrValue}
 use Rattle.dbe_values.specs.declared.key.KeyValue.{KeyValue}
 use Rattle.dbe_values.specs.declared.key.KeyError.{KeyError}
 use Rattle.dbe_values.specs.declared.key.KeyError.TheVariants.{Bad, Memory}
 
 abbrev pub key_view : KeyValue → Val × Option Val
 key_view k = (view k.partition, option_map view k.sort)
+
+-- the key that was found, or the name at which there is none
+abbrev pub key_found : Result (Bor AttrValue × Option (Bor AttrValue)) (Bor (List ℕ)) → Result (Val × Option Val) (List ℕ)
+key_found (Ok k) = Ok (view k.0.now, option_map (λ value. view value.now) k.1)
+key_found (Err name) = Err name.now
 
 -- the key that a row has, or the name at which it has none, unless memory ran out
 abbrev pub GivesKey : Result KeyValue KeyError → Result (Val × Option Val) (List ℕ) → Type 0

@@ -2,6 +2,7 @@
 use Rattle.std.specs.Prelude.{ℕ, ℤ, pos, ◌&&◌, Bool, true, false, List, [], length, nat_lt, nat_le, Option, Some, None, is_ok, Result, Ok, Err, if◌then◌else◌}
 use Rattle.std.specs.Ordering.{nat_cmp, int_cmp, then_cmp, on}
 use Rattle.std.specs.Option.{option_cmp}
+use Rattle.std.specs.Result.{result_err}
 use Rattle.std.specs.Cmp.Lexicographic.{slice_cmp}
 use Rattle.dbe_num.specs.Decimal.{units}
 use Rattle.std.specs.declared.cmp.Ordering.{Ordering}
@@ -50,6 +51,10 @@ partition_found schema row (Some p) = with_sort p row schema.sort
 -- the key of a row, or the first key name whose attribute is not lawful
 abbrev pub row_key : KeySchema → List (List ℕ × AttrValue) → Result (Val × Option Val) (List ℕ)
 row_key schema row = partition_found schema row (part_of 2048 schema.partition row)
+
+-- the first key name whose attribute is not lawful; none where the row has a lawful key
+abbrev pub key_fault : KeySchema → List (List ℕ × AttrValue) → Option (List ℕ)
+key_fault schema row = result_err (row_key schema row)
 
 abbrev pub has_key : KeySchema → List (List ℕ × AttrValue) → Bool
 has_key schema row = is_ok (row_key schema row)

@@ -3,9 +3,9 @@ ghost use Rattle.std.specs.Borrow.{Bor};
 ghost use Rattle.std.specs.Option.{option_cmp};
 ghost use Rattle.dbe_values.specs.View.{view};
 ghost use Rattle.dbe_values.specs.declared.value.AttrValue.{AttrValue};
-ghost use Rattle.dbe_values.specs.Keys.{has_length, fits_key, part_of, row_key, type_rank, key_bytes, key_units, value_order, key_order};
+ghost use Rattle.dbe_values.specs.Keys.{has_length, fits_key, part_of, row_key, key_fault, type_rank, key_bytes, key_units, value_order, key_order};
 ghost use Rattle.dbe_num.specs.Decimal.{units};
-ghost use Rattle.dbe_values.specs.KeyValues.{key_view, GivesKey};
+ghost use Rattle.dbe_values.specs.KeyValues.{key_view, key_found, GivesKey};
 
 use crate::{AttrValue, Item};
 use dbe_num::{Memory, Number, Text};
@@ -108,30 +108,48 @@ impl From<Memory> for KeyError {
 pub fn read_key(alloc: Global, schema: &KeySchema, item: &Item) -> Result<KeyValue, KeyError>
     ensures { GivesKey result (row_key schema.now item.now) }
 {
-    let Some(partition) = part_of(item, &schema.partition, 2048) else {
-        return Err(bad(alloc, &schema.partition)?);
-    };
-    let Some(sort_name) = &schema.sort else {
-        return Ok(KeyValue {
+    match find_key(schema, item) {
+        Ok((partition, sort)) => Ok(KeyValue {
             partition: partition.copy(alloc)?,
-            sort: None,
-        });
-    };
-    let Some(sort) = part_of(item, sort_name, 1024) else {
-        return Err(bad(alloc, sort_name)?);
-    };
-    Ok(KeyValue {
-        partition: partition.copy(alloc)?,
-        sort: Some(sort.copy(alloc)?),
-    })
+            sort: match sort {
+                Some(sort) => Some(sort.copy(alloc)?),
+                None => None,
+            },
+        }),
+        Err(name) => Err(KeyError::Bad {
+            name: name.copy(alloc)?,
+        }),
+    }
 }
 
-fn bad(alloc: Global, part: &KeyName) -> Result<KeyError, Memory>
-    ensures { IfOk result (λ e. e ≡ KeyError.Bad part.now.name) }
+/// The name of the first key attribute, partition before sort, that is not lawful; none where the item has a lawful
+/// key. Takes no memory.
+pub fn key_fault<'a>(schema: &'a KeySchema, item: &Item) -> Option<&'a Text>
+    ensures { option_map (λ n. n.now) result ≡ key_fault schema.now item.now }
 {
-    Ok(KeyError::Bad {
-        name: part.name.copy(alloc)?,
-    })
+    match find_key(schema, item) {
+        Ok(_) => None,
+        Err(name) => Some(name),
+    }
+}
+
+// The values of the key, or the first name whose attribute is not lawful.
+fn find_key<'a, 'b>(
+    schema: &'a KeySchema,
+    item: &'b Item,
+) -> Result<(&'b AttrValue, Option<&'b AttrValue>), &'a Text>
+    ensures { key_found result ≡ row_key schema.now item.now }
+{
+    let Some(partition) = part_of(item, &schema.partition, 2048) else {
+        return Err(&schema.partition.name);
+    };
+    let Some(sort_name) = &schema.sort else {
+        return Ok((partition, None));
+    };
+    let Some(sort) = part_of(item, sort_name, 1024) else {
+        return Err(&sort_name.name);
+    };
+    Ok((partition, Some(sort)))
 }
 
 fn part_of<'a>(item: &'a Item, part: &KeyName, most: usize) -> Option<&'a AttrValue>
@@ -166,7 +184,7 @@ fn has_length(bytes: &[u8], most: usize) -> bool
 pub fn key_order(a: &KeyValue, b: &KeyValue) -> Ordering
     ensures { result ≡ key_order (key_view a.now) (key_view b.now) }
 {
-    value_order(&a.partition, &b.partition).then(sort_order(&a.sort, &b.sort))
+    value_order(&a.partition, &b.partition).then_with(|| sort_order(&a.sort, &b.sort))
 }
 
 fn value_order(a: &AttrValue, b: &AttrValue) -> Ordering
@@ -174,8 +192,8 @@ fn value_order(a: &AttrValue, b: &AttrValue) -> Ordering
 {
     type_rank(a)
         .cmp(&type_rank(b))
-        .then(key_bytes(a).cmp(&key_bytes(b)))
-        .then(key_number(a).compare(&key_number(b)))
+        .then_with(|| key_bytes(a).cmp(&key_bytes(b)))
+        .then_with(|| key_number(a).compare(&key_number(b)))
 }
 
 // A type's place among the types of keys.

@@ -23,7 +23,7 @@ pub use branch_id::BranchId;
 pub use fault::{ItemFault, ValueFault};
 pub use item::Item;
 pub use json::{json_value, size_of};
-pub use key::{KeyError, KeyKind, KeyName, KeySchema, KeyValue, key_order, read_key};
+pub use key::{KeyError, KeyKind, KeyName, KeySchema, KeyValue, key_fault, key_order, read_key};
 pub use laws::{item_read_again, one_view, value_read_again};
 pub use read_item::item_from_json;
 pub use read_value::from_json;

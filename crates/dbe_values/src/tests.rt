@@ -419,6 +419,10 @@ fn keys_are_read(rt: HostRuntime) -> Result<(), Fail> {
             expected,
             "{text}"
         );
+        match key_fault(&schema, &item) {
+            Some(name) => assert_eq!(rt; name.as_str(), expected, "{text}"),
+            None => assert!(rt; expected.starts_with('{'), "{text}"),
+        }
     }
     Ok(())
 }

@@ -18,7 +18,11 @@ pub fn to_json(alloc: Global, value: &AttrValue) -> Result<Value, Memory>
 {
     match value {
         AttrValue::S(text) => tagged(alloc, "S", string_value(alloc, text)?),
-        AttrValue::N(number) => tagged(alloc, "N", string_value(alloc, &number.text(alloc)?)?),
+        AttrValue::N(number) => tagged(
+            alloc,
+            "N",
+            Value::String(number.text(alloc)?.into_string()),
+        ),
         AttrValue::B(bytes) => tagged(alloc, "B", base64_value(alloc, bytes)?),
         AttrValue::Bool(b) => tagged(alloc, "BOOL", Value::Bool(*b)),
         AttrValue::Null => tagged(alloc, "NULL", Value::Bool(true)),
@@ -134,5 +138,5 @@ pub fn item_text(alloc: Global, item: &Item) -> Result<Vec<u8>, Memory>
     ensures { IfOk result (λ text. text.items ≡ compact_text (item_data item.now)) }
 {
     let value = item_to_json(alloc, item)?;
-    Ok(value.to_string(alloc)?.into_bytes())
+    Ok(value.to_vec(alloc)?)
 }

@@ -5,6 +5,5 @@ use Rattle.dbe_values.proofs.write.item_text.Goals as goal
 
 pub returns : goal.returns
 returns c =
-    ap (λ v. v.items) c.into_bytes.ensures.value
-    ∙ c.in_ok-to_string.ensures.text (item_has_no_float _ c.args.item.now c.in_ok-value.ensures)
+    c.in_ok-to_vec.ensures.text (item_has_no_float _ c.args.item.now c.in_ok-value.ensures)
     ∙ ap compact_text c.in_ok-value.ensures
