@@ -12,7 +12,6 @@ use Rattle.std.proofs.lemmas.Slice.Eq.{bytes_eq-Decides}
 use Rattle.dbe_values.specs.declared.key.KeySchema.{KeySchema}
 use Rattle.dbe_values.specs.Keys.{has_key, key_of, row_key, row_order}
 use Rattle.dbe_values.specs.KeyValues.{key_order-total}
-use Rattle.dbe_config.specs.Setting.{Setting}
 use Rattle.dbe_item.specs.Acceptance.{put_fault, or_next, fault_of_key}
 use Rattle.dbe_item.specs.declared.fault.PutFault.{PutFault}
 use Rattle.std.specs.Prelude.{is_ok}
@@ -29,14 +28,14 @@ use Rattle.dbe_session.specs.Requests.{request_of}
 use Rattle.dbe_session.proofs.Replies.{no_request, not_ok, split_not_ok, asked_state}
 use Rattle.dbe_session.proofs.Computed.{selected_handed_out}
 use Rattle.dbe_session.specs.Texts.{put_text, select_text}
-use Rattle.dbe_session.specs.Reply.{State, Turn, IsTurn, IsReading, IsReadingOf, Reply, handed_out, selected_text, searchable, reserved_in, query_reply, explain_reply, asked_reply, put_reply, reply_by, reply_in, reply_to, run, lines_in, replies_in}
+use Rattle.dbe_session.specs.Reply.{Environment, State, Turn, IsTurn, IsReading, IsReadingOf, Reply, handed_out, searchable, reserved_in, query_reply, explain_reply, asked_reply, put_reply, reply_by, reply_in, reply_to, run, lines_in, replies_in}
 use Rattle.dbe_session.specs.declared.request.Query.{Query}
 use Rattle.dbe_session.specs.declared.request.Request.{Request}
 use Rattle.dbe_session.specs.declared.request.Request.TheVariants as r
 use Rattle.dbe.specs.declared.status.Status.{Status}
 use Rattle.dbe.specs.Maps.{Items, put_item, with_request, after_line, After, select_of, IsAnswer, AreRows, IsAcceptable, Stands}
 use Rattle.dbe.specs.Run.{World, Ran, Headline, AreAnswers}
-use Rattle.dbe.specs.Stops.{AreRowsBefore, Stopped, Kept, StandsBefore}
+use Rattle.dbe.specs.Stops.{IsStateBefore, Stopped, Kept, StandsBefore}
 
 -- the order of rows is an order
 row_total : (schema : KeySchema) → IsTotalOrder (row_order schema)
@@ -131,35 +130,35 @@ module _ (schema : KeySchema) (item : Row) where
 
 -- ---- rows that stand for a map
 
-rows_are : (rows m : Items) → AreRows rows m → rows ≡ m
-rows_are [] [] h = refl
-rows_are [] (i ∷ is) h = absurd h
-rows_are (x ∷ xs) [] h = absurd h
-rows_are (x ∷ xs) (i ∷ is) h = rw (h.0, rows_are xs is h.1) refl
+rows_are : (e : Environment) (s : State) (rows m : Items) → AreRows e s rows m → rows ≡ m
+rows_are e s [] [] h = refl
+rows_are e s [] (i ∷ is) h = absurd h
+rows_are e s (x ∷ xs) [] h = absurd h
+rows_are e s (x ∷ xs) (i ∷ is) h = rw (h.0, rows_are e s xs is h.1) refl
 
-are_rows_refl : (m : Items) → AreRows m m
-are_rows_refl [] = tt
-are_rows_refl (i ∷ is) = (refl, are_rows_refl is)
+are_rows_refl : (e : Environment) (s : State) (m : Items) → AreRows e s m m
+are_rows_refl e s [] = tt
+are_rows_refl e s (i ∷ is) = (refl, are_rows_refl e s is)
 
 -- an acceptable item has a lawful key
 key_of_fault : (k : Result (Val × Option Val) (List ℕ)) (rest : Option PutFault) → or_next (fault_of_key (result_err k)) rest ≡ None → is_ok k ≡ true
 key_of_fault (Ok k) rest is = refl
 key_of_fault (Err name) rest is = absurd (cc)
 
-acceptable_key : (c : Setting) (item : Row) → IsAcceptable c item → has_key c.schema item ≡ true
-acceptable_key c item fits = key_of_fault (row_key c.schema item) _ fits.accepted
+acceptable_key : (e : Environment) (item : Row) → IsAcceptable e item → has_key e.config.schema item ≡ true
+acceptable_key e item fits = key_of_fault (row_key e.config.schema item) _ fits.accepted
 
-pub put_stands : (c : Setting) (rows m : Items) (item : Row) → IsAcceptable c item → Stands c rows m → Stands c (put_row c.schema item rows) (put_item c.schema item m)
-put_stands c rows m item fits st =
-    let same : put_row c.schema item rows ≡ put_item c.schema item m = ap (put_row c.schema item) (rows_are rows m st.are_rows) ∙ put_row-put_item c.schema item m st.is_map.order in
-    let put : put_row c.schema item m ≡ put_item c.schema item m = put_row-put_item c.schema item m st.is_map.order in
-    let P : Items → Type 0 = λ items. IsTable c.schema items in
-    let Q : Items → Type 0 = λ items. All (IsAcceptable c) items in
-    let R : Items → Type 0 = λ items. AreRows items (put_item c.schema item m) in
+pub put_stands : (e : Environment) (s t : State) (m : Items) (item : Row) → t.rows ≡ put_row e.config.schema item s.rows → IsAcceptable e item → Stands e s m → Stands e t (put_item e.config.schema item m)
+put_stands e s t m item put_is fits st =
+    let same : t.rows ≡ put_item e.config.schema item m = put_is ∙ ap (put_row e.config.schema item) (rows_are e s s.rows m st.are_rows) ∙ put_row-put_item e.config.schema item m st.is_map.order in
+    let put : put_row e.config.schema item m ≡ put_item e.config.schema item m = put_row-put_item e.config.schema item m st.is_map.order in
+    let P : Items → Type 0 = λ items. IsTable e.config.schema items in
+    let Q : Items → Type 0 = λ items. All (IsAcceptable e) items in
+    let R : Items → Type 0 = λ items. AreRows e t items (put_item e.config.schema item m) in
     record {
-      is_map = subst P put (record { keys = all_put c.schema item (λ i. has_key c.schema i ≡ true) m (acceptable_key c item fits) st.is_map.keys; order = ordered_put c.schema item m st.is_map.order });
-      acceptable = subst Q put (all_put c.schema item (IsAcceptable c) m fits st.acceptable);
-      are_rows = subst R (sym same) (are_rows_refl (put_item c.schema item m));
+      is_map = subst P put (record { keys = all_put e.config.schema item (λ i. has_key e.config.schema i ≡ true) m (acceptable_key e item fits) st.is_map.keys; order = ordered_put e.config.schema item m st.is_map.order });
+      acceptable = subst Q put (all_put e.config.schema item (IsAcceptable e) m fits st.acceptable);
+      are_rows = subst R (sym same) (are_rows_refl e t (put_item e.config.schema item m));
     }
 
 -- ---- requests
@@ -169,64 +168,63 @@ same_if true m = refl
 same_if false m = refl
 
 -- a put, by its fault and its split
-put_by_fault : (c : Setting) (s : State) (m : Items) (item : Row) (fault : Option PutFault) (split : Option (List ℕ × List ℕ)) → put_fault c item ≡ fault → split_at c item ≡ split → Stands c s.rows m
-    → Stands c (put_reply c s item fault split).state.rows (if bytes_eq (put_reply c s item fault split).text put_text then put_item c.schema item m else m)
-put_by_fault c s m item (Some fault) split fits whole st = rw (not_ok fault) st
-put_by_fault c s m item None (Some at) fits whole st = rw (split_not_ok at) st
-put_by_fault c s m item None None fits whole st = rw ((bytes_eq-Decides put_text put_text).1 refl) (put_stands c s.rows m item (record { accepted = fits; unsplit = whole }) st)
+put_by_fault : (e : Environment) (s : State) (m : Items) (item : Row) (fault : Option PutFault) (split : Option (List ℕ × List ℕ)) → put_fault e.config item ≡ fault → split_at e.config item ≡ split → Stands e s m
+    → Stands e (put_reply e s item fault split).state (if bytes_eq (put_reply e s item fault split).text put_text then put_item e.config.schema item m else m)
+put_by_fault e s m item (Some fault) split fits whole st = rw (not_ok fault) st
+put_by_fault e s m item None (Some at) fits whole st = rw (split_not_ok at) st
+put_by_fault e s m item None None fits whole st = rw ((bytes_eq-Decides put_text put_text).1 refl) (put_stands e s (put_reply e s item None None).state m item refl (record { accepted = fits; unsplit = whole }) st)
 
 -- what is asked leaves the rows
-asked_stands : (c : Setting) (s : State) (m : Items) (reply_for : Condition → Reply) (reading : Result Condition CondFault) → ((cond : Condition) → (reply_for cond).state ≡ s) → Stands c s.rows m → Stands c (asked_reply s reply_for reading).state.rows m
-asked_stands c s m reply_for reading same st = let P : State → Type 0 = λ t. Stands c t.rows m in subst P (sym (asked_state s reply_for reading same)) st
+asked_stands : (e : Environment) (s : State) (m : Items) (reply_for : Condition → Reply) (reading : Result Condition CondFault) → ((cond : Condition) → (reply_for cond).state ≡ s) → Stands e s m → Stands e (asked_reply s reply_for reading).state m
+asked_stands e s m reply_for reading same st = let P : State → Type 0 = λ t. Stands e t m in subst P (sym (asked_state s reply_for reading same)) st
 
 -- one request keeps that the rows stand for the map
-stands_by : (c : Setting) (s : State) (m : Items) (request : Request) (reading : Result Condition CondFault) → Stands c s.rows m
-    → Stands c (reply_by c s request reading).state.rows (if bytes_eq (reply_by c s request reading).text put_text then with_request c.schema m request else m)
-stands_by c s m r.NotJson reading st = rw (same_if (bytes_eq (reply_by c s r.NotJson reading).text put_text) m) st
-stands_by c s m r.Shape reading st = rw (same_if (bytes_eq (reply_by c s r.Shape reading).text put_text) m) st
-stands_by c s m (r.Value name why) reading st = rw (same_if (bytes_eq (reply_by c s (r.Value name why) reading).text put_text) m) st
-stands_by c s m (r.Key name) reading st = rw (same_if (bytes_eq (reply_by c s (r.Key name) reading).text put_text) m) st
-stands_by c s m r.NotBuilt reading st = rw (same_if (bytes_eq (reply_by c s r.NotBuilt reading).text put_text) m) st
-stands_by c s m (r.Put item) reading st = put_by_fault c s m item (put_fault c item) (split_at c item) refl refl st
-stands_by c s m (r.Get key) reading st = rw (same_if (bytes_eq (reply_by c s (r.Get key) reading).text put_text) m) st
-stands_by c s m (r.Check key) reading st = rw (same_if (bytes_eq (reply_by c s (r.Check key) reading).text put_text) m) st
-stands_by c s m (r.Query q) reading st = rw (same_if (bytes_eq (reply_by c s (r.Query q) reading).text put_text) m) (asked_stands c s m (query_reply c s) reading (λ cond. refl) st)
-stands_by c s m (r.Explain q) reading st = rw (same_if (bytes_eq (reply_by c s (r.Explain q) reading).text put_text) m) (asked_stands c s m (explain_reply c s) reading (λ cond. refl) st)
+stands_by : (e : Environment) (s : State) (m : Items) (request : Request) (reading : Result Condition CondFault) → Stands e s m
+    → Stands e (reply_by e s request reading).state (if bytes_eq (reply_by e s request reading).text put_text then with_request e.config.schema m request else m)
+stands_by e s m r.NotJson reading st = rw (same_if (bytes_eq (reply_by e s r.NotJson reading).text put_text) m) st
+stands_by e s m r.Shape reading st = rw (same_if (bytes_eq (reply_by e s r.Shape reading).text put_text) m) st
+stands_by e s m (r.Value name why) reading st = rw (same_if (bytes_eq (reply_by e s (r.Value name why) reading).text put_text) m) st
+stands_by e s m (r.Key name) reading st = rw (same_if (bytes_eq (reply_by e s (r.Key name) reading).text put_text) m) st
+stands_by e s m r.NotBuilt reading st = rw (same_if (bytes_eq (reply_by e s r.NotBuilt reading).text put_text) m) st
+stands_by e s m (r.Put item) reading st = put_by_fault e s m item (put_fault e.config item) (split_at e.config item) refl refl st
+stands_by e s m (r.Get key) reading st = rw (same_if (bytes_eq (reply_by e s (r.Get key) reading).text put_text) m) st
+stands_by e s m (r.Check key) reading st = rw (same_if (bytes_eq (reply_by e s (r.Check key) reading).text put_text) m) st
+stands_by e s m (r.Query q) reading st = rw (same_if (bytes_eq (reply_by e s (r.Query q) reading).text put_text) m) (asked_stands e s m (query_reply e s) reading (λ cond. refl) st)
+stands_by e s m (r.Explain q) reading st = rw (same_if (bytes_eq (reply_by e s (r.Explain q) reading).text put_text) m) (asked_stands e s m (explain_reply e s) reading (λ cond. refl) st)
 
 -- ---- lines and turns
 
-stands_after_line : (c : Setting) (s : State) (m : Items) (line : List ℕ) (reading : Result Condition CondFault) → Stands c s.rows m → Stands c (reply_in c s line reading).state.rows (after_line c m line (reply_in c s line reading).text)
-stands_after_line c s m [] reading st = st
-stands_after_line c s m (b ∷ bytes) reading st = stands_by c s m (request_of c.schema (b ∷ bytes)) reading st
+stands_after_line : (e : Environment) (s : State) (m : Items) (line : List ℕ) (reading : Result Condition CondFault) → Stands e s m → Stands e (reply_in e s line reading).state (after_line e m line (reply_in e s line reading).text)
+stands_after_line e s m [] reading st = st
+stands_after_line e s m (b ∷ bytes) reading st = stands_by e s m (request_of e.config.schema (b ∷ bytes)) reading st
 
-stands_after : (c : Setting) (s : State) (m : Items) (turns : List Turn) → Stands c s.rows m → Stands c (run c s turns).state.rows (After c m (lines_in turns) (replies_in c s turns))
-stands_after c s m [] st = st
-stands_after c s m (turn ∷ turns) st = stands_after c (reply_to c s turn).state _ turns (stands_after_line c s m turn.line turn.reading st)
+stands_after : (e : Environment) (s : State) (m : Items) (turns : List Turn) → Stands e s m → Stands e (run e s turns).state (After e m (lines_in turns) (replies_in e s turns))
+stands_after e s m [] st = st
+stands_after e s m (turn ∷ turns) st = stands_after e (reply_to e s turn).state _ turns (stands_after_line e s m turn.line turn.reading st)
 
-text_joined : (c : Setting) (s : State) (turns : List Turn) → (run c s turns).text ≡ flat_map (λ reply. reply) (replies_in c s turns)
-text_joined c s [] = refl
-text_joined c s (turn ∷ turns) = ap (λ (text : List ℕ). (reply_to c s turn).text ++ text) (text_joined c (reply_to c s turn).state turns) ∙ sym (flat_map-cons (λ reply. reply) (reply_to c s turn).text (replies_in c (reply_to c s turn).state turns))
+text_joined : (e : Environment) (s : State) (turns : List Turn) → (run e s turns).text ≡ flat_map (λ reply. reply) (replies_in e s turns)
+text_joined e s [] = refl
+text_joined e s (turn ∷ turns) = ap (λ (text : List ℕ). (reply_to e s turn).text ++ text) (text_joined e (reply_to e s turn).state turns) ∙ sym (flat_map-cons (λ reply. reply) (reply_to e s turn).text (replies_in e (reply_to e s turn).state turns))
 
 -- a query's reply is that of the map
-query_is : (c : Setting) (s : State) (m : Items) (cond : Condition) → Stands c s.rows m → (query_reply c s cond).text ≡ select_text (select_of c cond m) (length (handed_out c cond m))
-query_is c s m cond st =
-    ap (λ rows. selected_text c cond (handed_out c cond rows)) (rows_are s.rows m st.are_rows)
-    ∙ ap (λ items. select_text items (length (handed_out c cond m))) (selected_handed_out c cond m)
+query_is : (e : Environment) (s : State) (m : Items) (cond : Condition) → Stands e s m → (query_reply e s cond).text ≡ select_text (select_of e cond m) (length (handed_out e s cond))
+query_is e s m cond st =
+    ap (λ items. select_text items (length (handed_out e s cond))) (selected_handed_out e s cond ∙ ap (select_of e cond) (rows_are e s s.rows m st.are_rows))
 
 -- what a query's text reads as
 reading_is : (q : Query) (reading : Result Condition CondFault) (cond : Condition) → IsReading q reading → Reads q.text q.names q.values cond → reading ≡ Ok cond
 reading_is q (Ok d) cond is reads = ap Ok (reads_unique q.text q.names q.values d cond is reads)
 reading_is q (Err fault) cond is reads = absurd (is.0 (not_refused q.text q.names q.values cond fault reads is.1))
 
-answer_by : (c : Setting) (s : State) (m : Items) (request : Request) (reading : Result Condition CondFault) (q : Query) (cond : Condition) → IsReadingOf request reading → Stands c s.rows m
-    → request ≡ r.Query q → Reads q.text q.names q.values cond → reserved_in cond ≡ None → (reply_by c s request reading).text ≡ select_text (select_of c cond m) (length (handed_out c cond m))
-answer_by c s m request reading q cond is_reading st is reads unreserved =
+answer_by : (e : Environment) (s : State) (m : Items) (request : Request) (reading : Result Condition CondFault) (q : Query) (cond : Condition) → IsReadingOf request reading → Stands e s m
+    → request ≡ r.Query q → Reads q.text q.names q.values cond → reserved_in cond ≡ None → (reply_by e s request reading).text ≡ select_text (select_of e cond m) (length (handed_out e s cond))
+answer_by e s m request reading q cond is_reading st is reads unreserved =
     let P : Request → Type 0 = λ request. IsReadingOf request reading in
     let same : reading ≡ Ok cond = reading_is q reading cond (subst P is is_reading) reads in
-    ap (λ request. (reply_by c s request reading).text) is
-    ∙ ap (λ reading. (asked_reply s (query_reply c s) reading).text) same
-    ∙ ap (λ name. (searchable s name (query_reply c s cond)).text) unreserved
-    ∙ query_is c s m cond st
+    ap (λ request. (reply_by e s request reading).text) is
+    ∙ ap (λ reading. (asked_reply s (query_reply e s) reading).text) same
+    ∙ ap (λ name. (searchable s name (query_reply e s cond)).text) unreserved
+    ∙ query_is e s m cond st
 
 -- an empty line asks nothing
 not_query : (q : Query) → r.NotJson ≡ r.Query q → ⊥
@@ -235,25 +233,25 @@ not_query q is = (cc)
 empty_line : (schema : KeySchema) (q : Query) → request_of schema [] ≡ r.Query q → ⊥
 empty_line schema q is = not_query q (sym (no_request schema) ∙ is)
 
-answer_of : (c : Setting) (s : State) (m : Items) (line : List ℕ) (reading : Result Condition CondFault) → IsReadingOf (request_of c.schema line) reading → Stands c s.rows m → IsAnswer c m line (reply_in c s line reading).text
-answer_of c s m [] reading is st cond asks = absurd (empty_line c.schema asks.query asks.is_query)
-answer_of c s m (b ∷ bytes) reading is st cond asks = answer_by c s m (request_of c.schema (b ∷ bytes)) reading asks.query cond is st asks.is_query asks.reads asks.searchable
+answer_of : (e : Environment) (s : State) (m : Items) (line : List ℕ) (reading : Result Condition CondFault) → IsReadingOf (request_of e.config.schema line) reading → Stands e s m → IsAnswer e s m line (reply_in e s line reading).text
+answer_of e s m [] reading is st cond asks = absurd (empty_line e.config.schema asks.query asks.is_query)
+answer_of e s m (b ∷ bytes) reading is st cond asks = answer_by e s m (request_of e.config.schema (b ∷ bytes)) reading asks.query cond is st asks.is_query asks.reads asks.searchable
 
 all_at : (P : Turn → Type 0) (first : List Turn) (turn : Turn) (others : List Turn) → All P (first ++ turn ∷ others) → P turn
 all_at P [] turn others h = h 0 turn (omega arith)
 all_at P (t ∷ first) turn others h = all_at P first turn others (λ k d lt. h (suc k) d (omega arith))
 
-answers : (c : Setting) (s : State) (m : Items) (turns : List Turn) → All (IsTurn c) turns → Stands c s.rows m → AreAnswers c s m turns
-answers c s m turns are st first turn others is =
-    let P : List Turn → Type 0 = λ ts. All (IsTurn c) ts in
-    answer_of c (run c s first).state _ turn.line turn.reading (all_at (IsTurn c) first turn others (subst P is are)) (stands_after c s m first st)
+answers : (e : Environment) (s : State) (m : Items) (turns : List Turn) → All (IsTurn e) turns → Stands e s m → AreAnswers e s m turns
+answers e s m turns are st first turn others is =
+    let P : List Turn → Type 0 = λ ts. All (IsTurn e) ts in
+    answer_of e (run e s first).state _ turn.line turn.reading (all_at (IsTurn e) first turn others (subst P is are)) (stands_after e s m first st)
 
 -- ---- whole runs
 
 -- what was written for a script answers each query from the map
 pub headline : (before after : World) → Ran before after → Headline before after
-headline before after (c, uses, ran) = (
-  c,
+headline before after (e, uses, ran) = (
+  e,
   uses,
   λ bytes start m script told st.
       let r = ran bytes start script told in (
@@ -261,65 +259,71 @@ headline before after (c, uses, ran) = (
         r.1,
         record {
           replied = r.2;
-          written = subst (Appends before.written after.written) (text_joined c start r.0) r.2.written;
-          answers = answers c start m r.0 r.1.are_turns st;
-          stands = stands_after c start m r.0 st;
+          written = subst (Appends before.written after.written) (text_joined e start r.0) r.2.written;
+          answers = answers e start m r.0 r.1.are_turns st;
+          stands = stands_after e start m r.0 st;
         },
       ),
 )
 
 -- the rows after one line more stand for the map after it, or for the map before
-next_put : (c : Setting) (s : State) (m : Items) (item : Row) (fault : Option PutFault) (split : Option (List ℕ × List ℕ)) → put_fault c item ≡ fault → split_at c item ≡ split → Stands c s.rows m
-    → Stands c (put_reply c s item fault split).state.rows m ⊎ Stands c (put_reply c s item fault split).state.rows (put_item c.schema item m)
-next_put c s m item (Some fault) split fits whole st = inl st
-next_put c s m item None (Some at) fits whole st = inl st
-next_put c s m item None None fits whole st = inr (put_stands c s.rows m item (record { accepted = fits; unsplit = whole }) st)
+next_put : (e : Environment) (s : State) (m : Items) (item : Row) (fault : Option PutFault) (split : Option (List ℕ × List ℕ)) → put_fault e.config item ≡ fault → split_at e.config item ≡ split → Stands e s m
+    → Stands e (put_reply e s item fault split).state m ⊎ Stands e (put_reply e s item fault split).state (put_item e.config.schema item m)
+next_put e s m item (Some fault) split fits whole st = inl st
+next_put e s m item None (Some at) fits whole st = inl st
+next_put e s m item None None fits whole st = inr (put_stands e s (put_reply e s item None None).state m item refl (record { accepted = fits; unsplit = whole }) st)
 
-next_by : (c : Setting) (s : State) (m : Items) (request : Request) (reading : Result Condition CondFault) → Stands c s.rows m
-    → Stands c (reply_by c s request reading).state.rows m ⊎ Stands c (reply_by c s request reading).state.rows (with_request c.schema m request)
-next_by c s m r.NotJson reading st = inl st
-next_by c s m r.Shape reading st = inl st
-next_by c s m (r.Value name why) reading st = inl st
-next_by c s m (r.Key name) reading st = inl st
-next_by c s m r.NotBuilt reading st = inl st
-next_by c s m (r.Put item) reading st = next_put c s m item (put_fault c item) (split_at c item) refl refl st
-next_by c s m (r.Get key) reading st = inl st
-next_by c s m (r.Check key) reading st = inl st
-next_by c s m (r.Query q) reading st = inl (asked_stands c s m (query_reply c s) reading (λ cond. refl) st)
-next_by c s m (r.Explain q) reading st = inl (asked_stands c s m (explain_reply c s) reading (λ cond. refl) st)
+next_by : (e : Environment) (s : State) (m : Items) (request : Request) (reading : Result Condition CondFault) → Stands e s m
+    → Stands e (reply_by e s request reading).state m ⊎ Stands e (reply_by e s request reading).state (with_request e.config.schema m request)
+next_by e s m r.NotJson reading st = inl st
+next_by e s m r.Shape reading st = inl st
+next_by e s m (r.Value name why) reading st = inl st
+next_by e s m (r.Key name) reading st = inl st
+next_by e s m r.NotBuilt reading st = inl st
+next_by e s m (r.Put item) reading st = next_put e s m item (put_fault e.config item) (split_at e.config item) refl refl st
+next_by e s m (r.Get key) reading st = inl st
+next_by e s m (r.Check key) reading st = inl st
+next_by e s m (r.Query q) reading st = inl (asked_stands e s m (query_reply e s) reading (λ cond. refl) st)
+next_by e s m (r.Explain q) reading st = inl (asked_stands e s m (explain_reply e s) reading (λ cond. refl) st)
 
-stands_next : (c : Setting) (s : State) (m : Items) (line : List ℕ) (reading : Result Condition CondFault) → Stands c s.rows m
-    → Stands c (reply_in c s line reading).state.rows m ⊎ Stands c (reply_in c s line reading).state.rows (after_line c m line put_text)
-stands_next c s m [] reading st = inl st
-stands_next c s m (b ∷ bytes) reading st = rw ((bytes_eq-Decides put_text put_text).1 refl) (next_by c s m (request_of c.schema (b ∷ bytes)) reading st)
+stands_next : (e : Environment) (s : State) (m : Items) (line : List ℕ) (reading : Result Condition CondFault) → Stands e s m
+    → Stands e (reply_in e s line reading).state m ⊎ Stands e (reply_in e s line reading).state (after_line e m line put_text)
+stands_next e s m [] reading st = inl st
+stands_next e s m (b ∷ bytes) reading st = rw ((bytes_eq-Decides put_text put_text).1 refl) (next_by e s m (request_of e.config.schema (b ∷ bytes)) reading st)
 
-stands_before : (c : Setting) (s : State) (m : Items) (lines : List (List ℕ)) (rows : Option Items) → Stands c s.rows m → AreRowsBefore c s lines rows → StandsBefore c m lines rows
-stands_before c s m [] rows st same = (s.rows, same, st)
-stands_before c s m (line ∷ lines) rows st (inl same) = (s.rows, same, inl st)
-stands_before c s m (line ∷ lines) rows st (inr after) =
-    let P : List ℕ → Type 0 = λ l. Stands c (reply_to c s after.turn).state.rows m ⊎ Stands c (reply_to c s after.turn).state.rows (after_line c m l put_text) in
-    (_, after.are_rows, subst P after.is_line (stands_next c s m after.turn.line after.turn.reading st))
+stands_before : (e : Environment) (s told : State) (m : Items) (lines : List (List ℕ)) → Stands e s m → IsStateBefore e s lines told → StandsBefore e m lines told
+stands_before e s told m [] st same = let P : State → Type 0 = λ t. Stands e t m in subst P (sym same) st
+stands_before e s told m (line ∷ lines) st (inl same) = let P : State → Type 0 = λ t. Stands e t m in inl (subst P (sym same) st)
+stands_before e s told m (line ∷ lines) st (inr after) =
+    let P : List ℕ → State → Type 0 = λ l t. Stands e t m ⊎ Stands e t (after_line e m l put_text) in
+    let Q : State → Type 0 = P after.turn.line in
+    let R : List ℕ → Type 0 = λ l. P l told in
+    subst R after.is_line (subst Q (sym after.is_state) (stands_next e s m after.turn.line after.turn.reading st))
 
 -- where the run stopped, the map is kept
 pub kept : (status : Status) (before after : World) → Stopped status before after → Kept status before after
-kept status before after (c, uses, stopped) = (
-  c,
+kept status before after (e, uses, stopped) = (
+  e,
   uses,
   λ bytes start m script told st.
       let r = stopped bytes start script told in (
         r.0,
         record {
           stopped = r.1;
-          written = let P : List ℕ → Type 0 = λ text. Appends before.written after.written (text ++ r.1.piece) in subst P (text_joined c start r.0) r.1.written;
-          answers = answers c start m r.0 r.1.are_turns st;
-          stands = stands_before c (run c start r.0).state _ (lines_of r.1.rest) after.rows (stands_after c start m r.0 st) r.1.state;
+          written = let P : List ℕ → Type 0 = λ text. Appends before.written after.written (text ++ r.1.piece) in subst P (text_joined e start r.0) r.1.written;
+          answers = answers e start m r.0 r.1.are_turns st;
+          stands = stands_before e (run e start r.0).state r.1.told _ (lines_of r.1.rest) (stands_after e start m r.0 st) r.1.state;
+          same_map = λ ne. let P : State → Type 0 = λ t. Stands e t (After e m (lines_in r.0) (replies_in e start r.0)) in subst P (sym (r.1.same_state ne)) (stands_after e start m r.0 st);
         },
       ),
 )
 
-pub map_stands : (c : Setting) (m : Items) → IsTable c.schema m → All (IsAcceptable c) m → Stands c m m
-map_stands c m table fits = record { is_map = table; acceptable = fits; are_rows = are_rows_refl m }
+pub map_stands : (e : Environment) (s : State) (m : Items) → s.rows ≡ m → IsTable e.config.schema m → All (IsAcceptable e) m → Stands e s m
+map_stands e s m is table fits = let P : Items → Type 0 = λ rows. AreRows e s rows m in record { is_map = table; acceptable = fits; are_rows = subst P (sym is) (are_rows_refl e s m) }
 
-pub nothing_stands : (c : Setting) → Stands c [] []
+pub state_of_map : (e : Environment) (m : Items) → IsTable e.config.schema m → All (IsAcceptable e) m → (s : State) × Stands e s m
+state_of_map e m table fits = (record { rows = m }, map_stands e (record { rows = m }) m refl table fits)
+
+pub nothing_stands : (e : Environment) (s : State) → s.rows ≡ [] → Stands e s []
 unfolding IsStrictlySortedBy
-nothing_stands c = map_stands c [] (record { keys = All-nil (λ row. has_key c.schema row ≡ true); order = tt }) (All-nil (IsAcceptable c))
+nothing_stands e s none = map_stands e s [] none (record { keys = All-nil (λ row. has_key e.config.schema row ≡ true); order = tt }) (All-nil (IsAcceptable e))

@@ -4,3 +4,4 @@ pub mod Halted
 pub mod Progress
 pub mod Headline
 pub mod Worlds
+pub mod Taken

@@ -3,6 +3,7 @@ use Rattle.std.specs.Prelude.{ℕ}
 use Rattle.dbe.specs.declared.status.Status.{Status}
 use Rattle.dbe.specs.declared.status.Status.TheVariants as s
 
+-- the exit code of a status
 abbrev pub code_of : Status → ℕ
 code_of s.Done = 0
 code_of s.Words = 2

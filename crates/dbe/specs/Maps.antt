@@ -1,11 +1,10 @@
--- Items under their keys as a map, what a script makes of it, and which rows stand for it.
+-- Items under their keys as a map, what a script makes of it, and which rows stand for it (this project's own).
 use Rattle.std.specs.Prelude.{◌≡◌, ℕ, List, [], ◌∷◌, ◌++◌, None, filter, length, bytes_eq, if◌then◌else◌}
 use Rattle.std.specs.List.{All}
 use Rattle.std.specs.Ordering.{is_lt}
 use Rattle.dbe_values.specs.declared.value.AttrValue.{AttrValue}
 use Rattle.dbe_values.specs.declared.key.KeySchema.{KeySchema}
 use Rattle.dbe_values.specs.Keys.{row_order}
-use Rattle.dbe_config.specs.Setting.{Setting}
 use Rattle.dbe_item.specs.Acceptance.{put_fault}
 use Rattle.dbe_fields.specs.Extended.{extended}
 use Rattle.dbe_fields.specs.Split.{split_at}
@@ -14,7 +13,7 @@ use Rattle.dbe_cond.specs.Meaning.{holds}
 use Rattle.dbe_cond.specs.Reading.{Reads}
 use Rattle.dbe_table.specs.Rows.{IsTable}
 use Rattle.dbe_session.specs.Requests.{request_of}
-use Rattle.dbe_session.specs.Reply.{reserved_in, handed_out}
+use Rattle.dbe_session.specs.Reply.{Environment, State, reserved_in, handed_out}
 use Rattle.dbe_session.specs.Texts.{put_text, select_text}
 use Rattle.dbe_session.specs.declared.request.Query.{Query}
 use Rattle.dbe_session.specs.declared.request.Request.{Request}
@@ -42,44 +41,48 @@ with_request schema m (r.Query q) = m
 with_request schema m (r.Explain q) = m
 
 -- The map after a line that got this reply: a put that was answered with ok puts its item, and every other line leaves the map.
-abbrev pub after_line : Setting → Items → List ℕ → List ℕ → Items
-after_line c m line reply = if bytes_eq reply put_text then with_request c.schema m (request_of c.schema line) else m
+abbrev pub after_line : Environment → Items → List ℕ → List ℕ → Items
+after_line e m line reply = if bytes_eq reply put_text then with_request e.config.schema m (request_of e.config.schema line) else m
 
 -- the map after lines that got these replies
-abbrev pub After : Setting → Items → List (List ℕ) → List (List ℕ) → Items
-After c m [] replies = m
-After c m (line ∷ lines) [] = m
-After c m (line ∷ lines) (reply ∷ replies) = After c (after_line c m line reply) lines replies
+abbrev pub After : Environment → Items → List (List ℕ) → List (List ℕ) → Items
+After e m [] replies = m
+After e m (line ∷ lines) [] = m
+After e m (line ∷ lines) (reply ∷ replies) = After e (after_line e m line reply) lines replies
 
 -- the items of which a condition holds, each with its virtual fields and compounds, in key order
-abbrev pub select_of : Setting → Condition → Items → Items
-select_of c cond m = filter (λ item. holds cond (extended c item)) m
+abbrev pub select_of : Environment → Condition → Items → Items
+select_of e cond m = filter (λ item. holds cond (extended e.config item)) m
 
 -- The line asks a query whose text reads as this condition, and no name in it is one that dbe keeps for itself.
-pub record Asks (c : Setting) (line : List ℕ) (cond : Condition) : Type 0 where
+pub record Asks (e : Environment) (line : List ℕ) (cond : Condition) : Type 0 where
   pub query : Query
-  pub is_query : request_of c.schema line ≡ r.Query query
+  pub is_query : request_of e.config.schema line ≡ r.Query query
   pub reads : Reads query.text query.names query.values cond
   pub searchable : reserved_in cond ≡ None
 
--- A query's reply is a line for each item of the map of which its condition holds, in key order, and then the line that counts them and what the table handed out: all items where a virtual field or a compound stands in the condition, else those of which it holds.
-abbrev pub IsAnswer : Setting → Items → List ℕ → List ℕ → Type 0
-IsAnswer c m line reply = (cond : Condition) → Asks c line cond → reply ≡ select_text (select_of c cond m) (length (handed_out c cond m))
+-- A query's reply is a line for each item of the map of which its condition holds, in key order, and then the line that counts them and the rows that the table handed out: every row of the state where a virtual field or a compound stands in the condition, else those of which it holds.
+abbrev pub IsAnswer : Environment → State → Items → List ℕ → List ℕ → Type 0
+IsAnswer e s m line reply = (cond : Condition) → Asks e line cond → reply ≡ select_text (select_of e cond m) (length (handed_out e s cond))
 
 -- A row of a plain table stands for the item that it is.
-abbrev pub AreRows : Items → Items → Type 0
-AreRows [] [] = Unit {0}
-AreRows [] (item ∷ items) = ⊥
-AreRows (row ∷ rows) [] = ⊥
-AreRows (row ∷ rows) (item ∷ items) = (row ≡ item) × AreRows rows items
+abbrev pub IsRowOf : Environment → State → List (List ℕ × AttrValue) → List (List ℕ × AttrValue) → Type 0
+IsRowOf e s row item = row ≡ item
+
+-- rows stand for items, one for each and in their order
+abbrev pub AreRows : Environment → State → Items → Items → Type 0
+AreRows e s [] [] = Unit {0}
+AreRows e s [] (item ∷ items) = ⊥
+AreRows e s (row ∷ rows) [] = ⊥
+AreRows e s (row ∷ rows) (item ∷ items) = IsRowOf e s row item × AreRows e s rows items
 
 -- An item may be stored: it has none of the faults of a put, and no used part of a compound has its split character.
-pub record IsAcceptable (setting : Setting) (item : List (List ℕ × AttrValue)) : Type 0 where
-  pub accepted : put_fault setting item ≡ None
-  pub unsplit : split_at setting item ≡ None
+pub record IsAcceptable (e : Environment) (item : List (List ℕ × AttrValue)) : Type 0 where
+  pub accepted : put_fault e.config item ≡ None
+  pub unsplit : split_at e.config item ≡ None
 
--- The rows stand for a map of acceptable items: one row for each key, in key order.
-pub record Stands (setting : Setting) (rows m : Items) : Type 0 where
-  pub is_map : IsTable setting.schema m
-  pub acceptable : All (IsAcceptable setting) m
-  pub are_rows : AreRows rows m
+-- The state stands for a map of acceptable items: it has one row for each key, in key order.
+pub record Stands (e : Environment) (state : State) (m : Items) : Type 0 where
+  pub is_map : IsTable e.config.schema m
+  pub acceptable : All (IsAcceptable e) m
+  pub are_rows : AreRows e state state.rows m

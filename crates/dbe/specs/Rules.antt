@@ -1,6 +1,7 @@
--- What is within the rules of a run, and when the configuration is refused.
+-- What is within the rules of a run, what is taken of a configuration, and when it is refused (this project's own).
 use Rattle.std.specs.Prelude.{◌≡◌, ◌≢◌, ◌⊎◌, ◌<◌, ◌≤◌, ℕ, List, ◌++◌, length, Some, Err, IsOk}
 use Rattle.std.specs.declared.option.Option.{Option}
+use Rattle.std.specs.Io.KnownBytes.{Consumes}
 use Rattle.dbe_config.specs.Configured.{configured}
 use Rattle.dbe.specs.Stops.{HasLongLine}
 use Rattle.dbe_config.specs.declared.fault.ConfigFault.{ConfigFault}
@@ -40,6 +41,12 @@ IsOfReading s.Table = ⊥
 -- told bytes, or a front of them that is longer than a configuration may be
 abbrev pub IsFrontOf : Option (List ℕ) → List ℕ → Type 0
 IsFrontOf told front = (bytes : List ℕ) → told ≡ Some bytes → (bytes ≡ front) ⊎ ((1048576 < length front) × ((rest : List ℕ) × (bytes ≡ front ++ rest)))
+
+-- told bytes lose a front of at most so many bytes
+pub record IsTaken (most : ℕ) (old new : Option (List ℕ)) : Type 0 where
+  pub front : List ℕ
+  pub gone : Consumes old new front
+  pub few : length front ≤ most
 
 -- no words, told bytes that spell a configuration, and a told script within the limits on its lines and its length
 pub record IsWithinRules (words : ℕ) (config script : Option (List ℕ)) : Type 0 where

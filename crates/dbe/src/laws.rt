@@ -1,11 +1,12 @@
-ghost use Rattle.std.specs.Prelude.{[]};
+ghost use Rattle.std.specs.Prelude.{◌≡◌, []};
 ghost use Rattle.std.specs.List.{All};
-ghost use Rattle.dbe_config.specs.Setting.{Setting};
 ghost use Rattle.dbe_table.specs.Rows.{IsTable};
+ghost use Rattle.dbe_session.specs.Reply.{Environment, State};
 ghost use Rattle.dbe.specs.Maps.{Items, IsAcceptable, Stands};
 
-/// Each map of acceptable items has rows that stand for it, and no rows stand for the empty map.
-pub fn each_map_has_rows()
-    ensures empty { (c : Setting) → Stands c [] [] }
-    ensures some { (c : Setting) (m : Items) → IsTable c.schema m → All (IsAcceptable c) m → Stands c m m }
+/// Each map of acceptable items has a state that stands for it, and a state without rows stands for the
+/// empty map.
+pub fn each_map_has_a_state()
+    ensures empty { (e : Environment) (s : State) → s.rows ≡ [] → Stands e s [] }
+    ensures some { (e : Environment) (m : Items) → IsTable e.config.schema m → All (IsAcceptable e) m → (s : State) × Stands e s m }
 {}

@@ -1,4 +1,4 @@
-ghost use Rattle.std.specs.Prelude.{◌≡◌, ◌≢◌, ◌↔◌, ◌⊎◌, ◌<◌, ◌≤◌, ℕ, List, true, Some, None, Ok, Err, IfOk, IfErr, OnOk, IsSome, length};
+ghost use Rattle.std.specs.Prelude.{◌≡◌, ◌≢◌, ◌↔◌, ◌⊎◌, ◌<◌, ◌≤◌, ◌+◌, ℕ, List, true, Some, None, Ok, Err, IfOk, IfErr, OnOk, IsSome, length};
 ghost use Rattle.std.specs.Io.KnownBytes.{IsAtEnd, Consumes};
 ghost use Rattle.std.specs.List.{All};
 ghost use Rattle.dbe_io.specs.Causes.{Rose};
@@ -6,7 +6,7 @@ ghost use Rattle.dbe_io.specs.Lines.{lines_of};
 ghost use Rattle.dbe_session.specs.Reply.{State};
 ghost use Rattle.dbe.specs.Run.{Ran, RanWith, Headline, World};
 ghost use Rattle.dbe_config.specs.Configured.{configured};
-ghost use Rattle.dbe.specs.Rules.{IsRefused, IsOfConfig, IsOfReading, IsFrontOf, IsWithinRules};
+ghost use Rattle.dbe.specs.Rules.{IsRefused, IsOfConfig, IsOfReading, IsFrontOf, IsTaken, IsWithinRules};
 ghost use Rattle.dbe_config.specs.declared.fault.ConfigFault.{ConfigFault as the_fault};
 ghost use Rattle.dbe.specs.Stops.{Stopped, StoppedWith, Kept, HasLongLine};
 ghost use Rattle.dbe.specs.Turns.{Turned, TurnedDown, IsOfReply};
@@ -26,10 +26,19 @@ const MOST_LINE_BYTES: usize = 1_048_576;
 
 const MOST_SCRIPT_BYTES: u64 = 1_073_741_824;
 
-/// Serves a script over a table: reads the configuration, begins the table, and writes the reply to
-/// each line of the script before it reads the next one.
+/// Serves a script over a table that has not begun: reads the configuration, begins the table, and
+/// writes the reply to each line of the script before it takes up the next one. An empty line has no
+/// reply. At the end the output is finished.
 ///
-/// The table must not have begun. There are no words yet that the program takes.
+/// - `Done`: the script was read to its end, and all replies are written.
+/// - `Words`: there are words. The program takes none yet: any word is refused, and nothing is read.
+/// - `Config`: the configuration is refused, for this reason. It has at most 1,048,576 bytes.
+/// - `Read`: the configuration or the script could not be read.
+/// - `LineTooLong`: a line has more than 1,048,576 bytes, its newline aside.
+/// - `ScriptTooLong`: the script has more than 1,073,741,824 bytes.
+/// - `Write`: the output failed, or took nothing of a reply.
+/// - `Table`: the table failed.
+/// - `Memory`: memory ran out, at any place.
 pub fn serve<C: Source, S: Source, O: Sink, T: Table>(
     alloc: Global,
     words: &[String],
@@ -63,6 +72,10 @@ pub fn serve<C: Source, S: Source, O: Sink, T: Table>(
     ensures untouched { T.begun table.new ≡ None → (O.written out.new ≡ O.written out.old) × (S.left script.new ≡ S.left script.old) }
     ensures late { (result ≡ Status.Done) ⊎ ((result ≡ Status.LineTooLong) ⊎ ((result ≡ Status.ScriptTooLong) ⊎ (result ≡ Status.Write))) → IsSome (T.begun table.new) }
 
+    // What is taken of the configuration, and what words leave as it was.
+    ensures taken { IsTaken 1048577 (C.left config.old) (C.left config.new) }
+    ensures words_first { result ≡ Status.Words → (config.new ≡ config.old) × (script.new ≡ script.old) × (out.new ≡ out.old) × (table.new ≡ table.old) }
+
     // When each status comes.
     ensures words { (result ≡ Status.Words) ↔ (0 < length words.now) }
     ensures config { (f : the_fault) → result ≡ Status.Config f → IsRefused f (C.left config.old) }
@@ -81,6 +94,7 @@ pub fn serve<C: Source, S: Source, O: Sink, T: Table>(
     served(alloc, words, config, script, out, table)
 }
 
+// What `serve` does, with the clauses that say nothing of a map of items.
 fn served<C: Source, S: Source, O: Sink, T: Table>(
     alloc: Global,
     words: &[String],
@@ -101,6 +115,8 @@ fn served<C: Source, S: Source, O: Sink, T: Table>(
     ensures within { result ≡ Status.Done → (bytes : List ℕ) → S.left script.old ≡ Some bytes → All (λ line. length line ≤ 1048576) (lines_of bytes) × (length bytes ≤ 1073741824) }
     ensures at_end { result ≡ Status.Done → IsAtEnd (S.left script.new) }
     ensures finished { result ≡ Status.Done → O.finished out.new ≡ true }
+    ensures taken { IsTaken (MOST_CONFIG_BYTES + 1) (C.left config.old) (C.left config.new) }
+    ensures words_first { result ≡ Status.Words → (config.new ≡ config.old) × (script.new ≡ script.old) × (out.new ≡ out.old) × (table.new ≡ table.old) }
     ensures words { (result ≡ Status.Words) ↔ (0 < length words.now) }
     ensures config { (f : the_fault) → result ≡ Status.Config f → IsRefused f (C.left config.old) }
     ensures read { result ≡ Status.Read → Rose (C.faults config.old) (C.faults config.new) ⊎ Rose (S.faults script.old) (S.faults script.new) }
@@ -125,6 +141,7 @@ fn served<C: Source, S: Source, O: Sink, T: Table>(
 fn read_config<C: Source>(alloc: Global, source: &mut C) -> Result<Config, Status>
     ensures ok { IfOk result (λ c. (bytes : List ℕ) → C.left source.old ≡ Some bytes → configured bytes ≡ Ok c) }
     ensures err { IfErr result (λ status. IsOfConfig status (C.left source.old)) }
+    ensures taken { IsTaken (MOST_CONFIG_BYTES + 1) (C.left source.old) (C.left source.new) }
     ensures read { result ≡ Err Status.Read → Rose (C.faults source.old) (C.faults source.new) }
     ensures later { C.faults source.old ≤ C.faults source.new }
 {
@@ -140,6 +157,7 @@ fn read_config<C: Source>(alloc: Global, source: &mut C) -> Result<Config, Statu
 fn read_front<C: Source>(alloc: Global, source: &mut C) -> Result<Vec<u8>, Status>
     ensures ok { IfOk result (λ front. IsFrontOf (C.left source.old) front.items) }
     ensures err { IfErr result IsOfReading }
+    ensures taken { IsTaken (MOST_CONFIG_BYTES + 1) (C.left source.old) (C.left source.new) }
     ensures read { result ≡ Err Status.Read → Rose (C.faults source.old) (C.faults source.new) }
     ensures later { C.faults source.old ≤ C.faults source.new }
 {
@@ -185,7 +203,7 @@ fn serve_table<S: Source, O: Sink, T: Table>(
     ensures long_script { result ≡ Status.ScriptTooLong → (bytes : List ℕ) → S.left script.old ≡ Some bytes → 1073741824 < length bytes }
     ensures write { result ≡ Status.Write → Rose (O.faults out.old) (O.faults out.new) ⊎ Rose (O.idle out.old) (O.idle out.new) }
     ensures table { result ≡ Status.Table → Rose (T.faults table.old) (T.faults table.new) }
-    ensures schema { IsSome (T.begun table.new) → T.begun table.new ≡ Some session.now.schema }
+    ensures schema { IsSome (T.begun table.new) → T.begun table.new ≡ Some session.now.config.schema }
     ensures not_words { result ≢ Status.Words }
     ensures not_config { (f : the_fault) → result ≢ Status.Config f }
 {
@@ -204,7 +222,7 @@ fn serve_lines<S: Source, O: Sink, T: Table>(
     out: &mut O,
     table: &mut T,
 ) -> Status
-    requires { T.begun table.old ≡ Some session.now.schema }
+    requires { T.begun table.old ≡ Some session.now.config.schema }
     ensures done { result ≡ Status.Done → RanWith session.now
         (record { config = None; script = S.left script.old; coming = λ _. T.rows table.old; begun = None; rows = None; given = T.given table.old; written = O.written out.old })
         (record { config = None; script = S.left script.new; coming = λ _. None; begun = None; rows = T.rows table.new; given = T.given table.new; written = O.written out.new }) }
@@ -241,6 +259,7 @@ fn serve_lines<S: Source, O: Sink, T: Table>(
     }
 }
 
+// Hands on what was written.
 fn finished<O: Sink>(out: &mut O) -> Status
     ensures same { O.written out.new ≡ O.written out.old }
     ensures cases { (result ≡ Status.Done) ⊎ (result ≡ Status.Write) }
@@ -262,7 +281,7 @@ fn reply<O: Sink, T: Table>(
     out: &mut O,
     line: &[u8],
 ) -> Result<(), Status>
-    requires { T.begun table.old ≡ Some session.now.schema }
+    requires { T.begun table.old ≡ Some session.now.config.schema }
     ensures ok { OnOk result ((s : State) → T.rows table.old ≡ Some s.rows → Turned session.now s line.now (T.rows table.new) (T.given table.old) (T.given table.new) (O.written out.old) (O.written out.new)) }
     ensures err { IfErr result (λ status. (s : State) → T.rows table.old ≡ Some s.rows → TurnedDown session.now status s line.now (T.rows table.new) (O.written out.old) (O.written out.new)) }
     ensures begun { T.begun table.new ≡ T.begun table.old }

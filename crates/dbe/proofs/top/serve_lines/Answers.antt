@@ -10,7 +10,7 @@ use Rattle.dbe.proofs.Progress.{Progress-start, Progress-more, Progress-done, st
 use Rattle.dbe.proofs.top.serve_lines.Goals as goal
 
 pub returns-in_default-clause-stopped : goal.returns-in_default-clause-stopped
-returns-in_default-clause-stopped g c = λ _ bytes start told rows. stopped_first c.args.session.now bytes start _ _ told rows refl
+returns-in_default-clause-stopped g c = λ _ bytes start told state. stopped_first c.args.session.now bytes start _ _ told state.rows refl
 
 pub lines-init : goal.lines-init
 lines-init g c =
@@ -30,8 +30,8 @@ lines-init g c =
     }
 
 pub returns-in-Ok-None-clause-done : goal.returns-in-Ok-None-clause-done
-returns-in-Ok-None-clause-done g c = λ is bytes start told rows.
-    Progress-done _ bytes start _ c.next.new.self _ _ _ _ _ _ _ _ _ (c.lines.invariant.run bytes start told rows) (rw c.in-Ok-None.field-0-is at c.in-Ok-None.ensures.line) c.lines.invariant.at_end refl refl refl refl c.finished.ensures.same
+returns-in-Ok-None-clause-done g c = λ is bytes start told state.
+    Progress-done _ bytes start _ c.next.new.self _ _ _ _ _ _ _ _ _ (c.lines.invariant.run bytes start told state.rows) (rw c.in-Ok-None.field-0-is at c.in-Ok-None.ensures.line) c.lines.invariant.at_end refl refl refl refl c.finished.ensures.same
 
 pub returns-in-Ok-None-clause-within : goal.returns-in-Ok-None-clause-within
 returns-in-Ok-None-clause-within g c = λ _ bytes told.
@@ -39,17 +39,17 @@ returns-in-Ok-None-clause-within g c = λ _ bytes told.
     ReadSoFar-within 1048576 1073741824 bytes _ c.next.new.self _ _ q.0 q.1 (rw c.in-Ok-None.field-0-is at c.in-Ok-None.ensures.line) c.lines.invariant.at_end
 
 pub returns-in-Ok-None-clause-stopped : goal.returns-in-Ok-None-clause-stopped
-returns-in-Ok-None-clause-stopped g c = λ ne bytes start told rows.
+returns-in-Ok-None-clause-stopped g c = λ ne bytes start told state.
     let is : c.finished.result ≡ s.Write = elim c.finished.ensures.cases [ inl done ↦ absurd (ne done) | inr write ↦ write ] in
-    stopped_write _ bytes start _ c.next.new.self _ _ _ _ _ _ _ _ _ (c.lines.invariant.run bytes start told rows) c.lines.invariant.no_fault refl refl c.finished.ensures.same refl c.finished.result is (rw c.in-Ok-None.field-0-is at c.in-Ok-None.ensures.line)
+    stopped_write _ bytes start _ c.next.new.self _ _ _ _ _ _ _ _ _ (c.lines.invariant.run bytes start told state.rows) c.lines.invariant.no_fault c.next.ensures.within refl refl c.finished.ensures.same refl c.finished.result is (rw c.in-Ok-None.field-0-is at c.in-Ok-None.ensures.line)
 
 pub returns-in-Err-Read-clause-stopped : goal.returns-in-Err-Read-clause-stopped
-returns-in-Err-Read-clause-stopped g c = λ _ bytes start told rows.
-    stopped_read _ bytes start _ c.next.new.self _ _ _ _ _ _ _ _ _ (c.lines.invariant.run bytes start told rows) c.lines.invariant.no_fault refl refl refl refl (rw c.in-Err-Read.field-0-is at c.in-Err-Read.ensures.stop)
+returns-in-Err-Read-clause-stopped g c = λ _ bytes start told state.
+    stopped_read _ bytes start _ c.next.new.self _ _ _ _ _ _ _ _ _ (c.lines.invariant.run bytes start told state.rows) c.lines.invariant.no_fault c.next.ensures.within refl refl refl refl (rw c.in-Err-Read.field-0-is at c.in-Err-Read.ensures.stop)
 
 pub returns-in-Err-LineTooLong-clause-stopped : goal.returns-in-Err-LineTooLong-clause-stopped
-returns-in-Err-LineTooLong-clause-stopped g c = λ _ bytes start told rows.
-    stopped_long _ bytes start _ c.next.new.self _ _ _ _ _ _ _ _ _ (c.lines.invariant.run bytes start told rows) c.lines.invariant.no_fault refl refl refl refl (rw c.in-Err-LineTooLong.field-0-is at c.in-Err-LineTooLong.ensures.stop)
+returns-in-Err-LineTooLong-clause-stopped g c = λ _ bytes start told state.
+    stopped_long _ bytes start _ c.next.new.self _ _ _ _ _ _ _ _ _ (c.lines.invariant.run bytes start told state.rows) c.lines.invariant.no_fault c.next.ensures.within refl refl refl refl (rw c.in-Err-LineTooLong.field-0-is at c.in-Err-LineTooLong.ensures.stop)
 
 pub returns-in-Err-LineTooLong-clause-long_line : goal.returns-in-Err-LineTooLong-clause-long_line
 returns-in-Err-LineTooLong-clause-long_line g c = λ _ bytes told.
@@ -58,8 +58,8 @@ returns-in-Err-LineTooLong-clause-long_line g c = λ _ bytes told.
     has_long_line bytes q.1.front (c.lines.reader.held ++ q.1.to_come) q.0 _ q.1.lines_are (too_long 1048576 1073741824 bytes _ c.next.new.self _ _ q.0 q.1 gave)
 
 pub returns-in-Err-TooMuch-clause-stopped : goal.returns-in-Err-TooMuch-clause-stopped
-returns-in-Err-TooMuch-clause-stopped g c = λ _ bytes start told rows.
-    stopped_much _ bytes start _ c.next.new.self _ _ _ _ _ _ _ _ _ (c.lines.invariant.run bytes start told rows) c.lines.invariant.no_fault refl refl refl refl (rw c.in-Err-TooMuch.field-0-is at c.in-Err-TooMuch.ensures.stop)
+returns-in-Err-TooMuch-clause-stopped g c = λ _ bytes start told state.
+    stopped_much _ bytes start _ c.next.new.self _ _ _ _ _ _ _ _ _ (c.lines.invariant.run bytes start told state.rows) c.lines.invariant.no_fault c.next.ensures.within refl refl refl refl (rw c.in-Err-TooMuch.field-0-is at c.in-Err-TooMuch.ensures.stop)
 
 pub returns-in-Err-TooMuch-clause-long_script : goal.returns-in-Err-TooMuch-clause-long_script
 returns-in-Err-TooMuch-clause-long_script g c = λ _ bytes told.
@@ -68,12 +68,12 @@ returns-in-Err-TooMuch-clause-long_script g c = λ _ bytes told.
     is_long_script 1073741824 bytes q.1.front (c.lines.reader.held ++ q.1.to_come) 1048576 q.1.whole q.1.within (too_much 1048576 1073741824 bytes _ c.next.new.self _ _ q.0 q.1 gave)
 
 pub returns-in-Err-Memory-clause-stopped : goal.returns-in-Err-Memory-clause-stopped
-returns-in-Err-Memory-clause-stopped g c = λ _ bytes start told rows.
-    stopped_memory _ bytes start _ c.next.new.self _ _ _ _ _ _ _ _ _ (c.lines.invariant.run bytes start told rows) c.lines.invariant.no_fault refl refl refl refl (rw c.in-Err-Memory.field-0-is at c.in-Err-Memory.ensures.stop)
+returns-in-Err-Memory-clause-stopped g c = λ _ bytes start told state.
+    stopped_memory _ bytes start _ c.next.new.self _ _ _ _ _ _ _ _ _ (c.lines.invariant.run bytes start told state.rows) c.lines.invariant.no_fault c.next.ensures.within refl refl refl refl (rw c.in-Err-Memory.field-0-is at c.in-Err-Memory.ensures.stop)
 
 pub returns-in-Err-clause-stopped : goal.returns-in-Err-clause-stopped
-returns-in-Err-clause-stopped g c = λ _ bytes start told rows.
-    stopped_in_reply _ c.in-Err.status bytes start _ c.next.new.self _ _ _ _ _ _ _ _ _ c.in-Ok-Some.line c.in-Err.ensures.of_reply (c.lines.invariant.run bytes start told rows) (rw c.in-Ok-Some.field-0-is at c.in-Ok-Some.ensures.line) c.lines.invariant.at_end refl refl
+returns-in-Err-clause-stopped g c = λ _ bytes start told state.
+    stopped_in_reply _ c.in-Err.status bytes start _ c.next.new.self _ _ _ _ _ _ _ _ _ c.in-Ok-Some.line c.in-Err.ensures.of_reply (c.lines.invariant.run bytes start told state.rows) (rw c.in-Ok-Some.field-0-is at c.in-Ok-Some.ensures.line) c.lines.invariant.at_end c.next.ensures.within refl refl
     (λ s is. rw (← c.deref.ensures.value) (c.in-Err.ensures.err s is))
 
 pub lines-preserved : goal.lines-preserved
