@@ -10,11 +10,12 @@ mod top;
 use dbe_io::{FileSource, StdSink, StdSource};
 use dbe_table::MemTable;
 pub use status::Status;
-use std::env;
-use std::io::ErrorKind;
+use std::env::FillError;
 use std::process::ExitCode;
-use std::rt::Runtime;
+use std::rt::{Env, Runtime};
 pub use top::serve;
+
+const MOST_WORD_BYTES: usize = 64;
 
 /// Serves the script on standard input by the configuration in `dbe.json`, and writes the replies to
 /// standard output. A status other than `Done` is a line on standard error.
@@ -41,19 +42,27 @@ fn run(rt: &HostRuntime, words: &[String]) -> Status {
     )
 }
 
-// The words after the program's name. One that is not UTF-8 is none that the program takes.
+// The words after the program's own name. One that is no UTF-8, or longer than all that the program
+// could take, is none of them.
 fn words(rt: &HostRuntime) -> Result<Vec<String>, Status> {
-    let mut words = Vec::new(rt.alloc());
-    match env::args(rt) {
-        Ok(args) => {
-            for word in args.skip(1) {
-                if words.push(word).is_err() {
-                    return Err(Status::Memory);
-                }
-            }
-            Ok(words)
+    let alloc = rt.alloc();
+    let mut words = Vec::new(alloc);
+    let mut block = [0u8; MOST_WORD_BYTES];
+    for place in 1..usize::MAX {
+        let length = match rt.arg(place, &mut block) {
+            Ok(length) => length,
+            Err(FillError::NotPresent) => break,
+            Err(FillError::TooLong) => return Err(Status::Words),
+        };
+        let Ok(text) = str::from_utf8(&block[..length]) else {
+            return Err(Status::Words);
+        };
+        let Ok(word) = String::from_str(alloc, text) else {
+            return Err(Status::Memory);
+        };
+        if words.push(word).is_err() {
+            return Err(Status::Memory);
         }
-        Err(error) if error.kind() == ErrorKind::OutOfMemory => Err(Status::Memory),
-        Err(_) => Err(Status::Words),
     }
+    Ok(words)
 }
