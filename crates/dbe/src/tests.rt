@@ -534,9 +534,23 @@ fn configurations_are_refused(rt: HostRuntime) -> Result<(), Fail> {
     )
 }
 
+// The sink fails at the first reply: no more of the script was asked for than its first line.
+#[test]
+fn a_reply_is_written_before_more_of_the_script_is_asked_for(rt: HostRuntime) -> Result<(), Fail> {
+    let alloc = rt.alloc();
+    let mut config = MemSource::new(PLAIN.as_bytes().to_vec(alloc)?, Vec::new(alloc));
+    let mut script = MemSource::in_pieces(PUTS.to_vec(alloc)?, 44, Vec::new(alloc));
+    let mut out = MemSink::new(alloc, ROOM, vec![in alloc; 1]?)?;
+    let mut table = MemTable::new(alloc, Vec::new(alloc));
+    let status = serve(alloc, &[], &mut config, &mut script, &mut out, &mut table);
+    assert_eq!(rt; status, Status::Write);
+    assert_eq!(rt; PUTS.get(44..), Some(script.left()));
+    Ok(())
+}
+
 // The source fails where the second line would be read: the reply to the first one stands written.
 #[test]
-fn a_reply_is_written_before_the_next_line_is_read(rt: HostRuntime) -> Result<(), Fail> {
+fn a_failed_read_leaves_the_replies_before_it(rt: HostRuntime) -> Result<(), Fail> {
     let mut failing = plan_of(PLAIN, PUTS);
     failing.most_read = 44;
     failing.script_fails = &[2];
