@@ -32,6 +32,9 @@ pub on_err : {A E : Type 0} (answer : Result A E) (P : Type 0) → P → OnErr a
 on_err (Ok a) P p = tt
 on_err (Err e) P p = p
 
+pub on_ok : {A E : Type 0} (answer : Result A E) (P : A → Type 0) (a : A) → answer ≡ Ok a → P a → IfOk answer P
+on_ok answer P a is p = let Q : Result _ _ → Type 0 = λ answer. IfOk answer P in subst Q (sym is) p
+
 some_at : {A : Type 0} (o : Option A) (P : A → Type 0) (a : A) → o ≡ Some a → IfSome o P → P a
 some_at o P a is h = let Q : Option _ → Type 0 = λ o. IfSome o P in subst Q is h
 

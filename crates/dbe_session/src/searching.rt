@@ -15,7 +15,7 @@ use dbe_cond::{Cond, Wanted, first_name_with, holds, read};
 use dbe_config::Config;
 use dbe_fields::values_of;
 use dbe_num::{Memory, Text};
-use dbe_table::{Table, TableFault};
+use dbe_table::Table;
 use dbe_values::Item;
 use std::alloc::Global;
 
@@ -113,11 +113,8 @@ fn search_by<T: Table>(
     ensures later { T.faults table.old ≤ T.faults table.new }
     ensures failed { result ≡ Err StepFault.Table → Rose (T.faults table.old) (T.faults table.new) }
 {
-    match table.select(wanted) {
-        Ok(found) => Ok(selected_text(alloc, config, cond, names, &found)?),
-        Err(TableFault::Failed) => Err(StepFault::Table),
-        Err(TableFault::Memory) => Err(StepFault::Memory),
-    }
+    let found = table.select(wanted)?;
+    Ok(selected_text(alloc, config, cond, names, &found)?)
 }
 
 // Of the rows that the table handed out, those that the condition selects.

@@ -41,6 +41,21 @@ impl From<Memory> for StepFault {
     }
 }
 
+impl From<TableFault> for StepFault {
+    ghost use Rattle.std.specs.Prelude.{◌↔◌};
+    ghost use Rattle.dbe_table.specs.declared.table.TableFault.TheVariants as given;
+    ghost use Rattle.dbe_session.specs.declared.session.StepFault.TheVariants as fault;
+
+    ghost from_gives = { λ f e. (e ≡ fault.Table) ↔ (f ≡ given.Failed) };
+
+    fn from(fault: TableFault) -> StepFault {
+        match fault {
+            TableFault::Failed => StepFault::Table,
+            TableFault::Memory => StepFault::Memory,
+        }
+    }
+}
+
 /// A session over a table: what is fixed while it serves lines.
 ///
 /// Contracts see the configuration in it.
@@ -144,11 +159,8 @@ fn put<T: Table>(
         return Ok(split_text(alloc, &at)?);
     }
     let text = put_text(alloc)?;
-    match table.put(item) {
-        Ok(()) => Ok(text),
-        Err(TableFault::Failed) => Err(StepFault::Table),
-        Err(TableFault::Memory) => Err(StepFault::Memory),
-    }
+    table.put(item)?;
+    Ok(text)
 }
 
 fn get<T: Table>(
@@ -165,11 +177,10 @@ fn get<T: Table>(
     ensures later { T.faults table.old ≤ T.faults table.new }
     ensures failed { result ≡ Err StepFault.Table → Rose (T.faults table.old) (T.faults table.new) }
 {
-    match table.get(key) {
-        Ok(Some(item)) => Ok(item_text(alloc, &item)?),
-        Ok(None) => Ok(none_text(alloc)?),
-        Err(TableFault::Failed) => Err(StepFault::Table),
-        Err(TableFault::Memory) => Err(StepFault::Memory),
+    let row = table.get(key)?;
+    match row {
+        Some(item) => Ok(item_text(alloc, &item)?),
+        None => Ok(none_text(alloc)?),
     }
 }
 
@@ -187,10 +198,9 @@ fn check<T: Table>(
     ensures later { T.faults table.old ≤ T.faults table.new }
     ensures failed { result ≡ Err StepFault.Table → Rose (T.faults table.old) (T.faults table.new) }
 {
-    match table.get(key) {
-        Ok(Some(_)) => Ok(checked_text(alloc)?),
-        Ok(None) => Ok(none_text(alloc)?),
-        Err(TableFault::Failed) => Err(StepFault::Table),
-        Err(TableFault::Memory) => Err(StepFault::Memory),
+    let row = table.get(key)?;
+    match row {
+        Some(_) => Ok(checked_text(alloc)?),
+        None => Ok(none_text(alloc)?),
     }
 }

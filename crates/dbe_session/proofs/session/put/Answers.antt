@@ -3,9 +3,9 @@ use Rattle.dbe_session.specs.Reply.{in_config}
 use Rattle.dbe_session.proofs.Replies.{put_made, put_refused, put_split}
 use Rattle.dbe_session.proofs.session.put.Goals as goal
 
-pub returns-in-Ok-put-clause-ok : goal.returns-in-Ok-put-clause-ok
-returns-in-Ok-put-clause-ok g c = λ s are.
-    put_made (in_config c.args.config.now) s c.args.item _ _ _ _ _ _ c.requires are c.in-Ok.ensures.ok (sym (rw c.in_default.is at c.in_ok-at.ensures)) c.in-Ok-put.ensures.rows c.in-Ok-put.ensures.given c.in_ok-text.ensures
+pub returns-clause-ok : goal.returns-clause-ok
+returns-clause-ok g c = λ s are.
+    put_made (in_config c.args.config.now) s c.args.item _ _ _ _ _ _ c.requires are c.in-Ok.ensures.ok (sym (rw c.in_default.is at c.in_ok-at.ensures)) c.in_ok-put.ensures.rows c.in_ok-put.ensures.given c.in_ok-text.ensures
 
 pub returns-in-Some-clause-ok : goal.returns-in-Some-clause-ok
 returns-in-Some-clause-ok g c = λ s are.
