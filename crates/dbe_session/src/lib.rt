@@ -9,6 +9,8 @@ mod request;
 mod requests;
 mod searching;
 mod session;
+#[cfg(test)]
+mod tests;
 mod texts;
 
 pub use request::{Query, Request};
