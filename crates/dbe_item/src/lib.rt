@@ -3,6 +3,8 @@
 
 mod acceptance;
 mod fault;
+#[cfg(test)]
+mod tests;
 
 pub use acceptance::accepts;
 pub use fault::PutFault;
