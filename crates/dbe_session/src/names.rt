@@ -1,4 +1,5 @@
-ghost use Rattle.std.specs.Prelude.{◌≡◌, ℕ, List, IfOk};
+ghost use Rattle.std.specs.Prelude.{◌≡◌, ℕ, List, IfOk, bytes_eq};
+ghost use Rattle.std.specs.List.{IsDistinct};
 ghost use Rattle.dbe_config.specs.Rules.{is_among};
 ghost use Rattle.dbe_cond.specs.Condition.{condition_of};
 ghost use Rattle.dbe_cond.specs.Names.{names_of};
@@ -9,14 +10,16 @@ use std::alloc::Global;
 
 /// The names of a condition, each once.
 pub(crate) fn distinct_names(alloc: Global, cond: &Cond) -> Result<Vec<Text>, Memory>
-    ensures { IfOk result (λ found. (name : List ℕ) → is_among name found.items ≡ is_among name (names_of (condition_of cond.now))) }
+    ensures same { IfOk result (λ found. (name : List ℕ) → is_among name found.items ≡ is_among name (names_of (condition_of cond.now))) }
+    ensures once { IfOk result (λ found. IsDistinct bytes_eq found.items) }
 {
     let names = names_in(alloc, cond)?;
     distinct(alloc, names.as_slice())
 }
 
 fn distinct(alloc: Global, names: &[Text]) -> Result<Vec<Text>, Memory>
-    ensures { IfOk result (λ found. (name : List ℕ) → is_among name found.items ≡ is_among name names.now) }
+    ensures same { IfOk result (λ found. (name : List ℕ) → is_among name found.items ≡ is_among name names.now) }
+    ensures once { IfOk result (λ found. IsDistinct bytes_eq found.items) }
 {
     let mut found = Vec::new(alloc);
     for name in names {
