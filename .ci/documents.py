@@ -1,10 +1,10 @@
-"""Checks that each file that a document names is there, and that docs/DEFINITIONS.md names each definition's file."""
+"""Checks that each file that a document names is there."""
 import os
 import re
 import sys
 
 LINK = re.compile(r"\]\(([^)#]+)(?:#[^)]*)?\)")
-PATH = re.compile(r"`((?:crates|docs|examples|bench|\.ci)/[^`\s]+)`")
+PATH = re.compile(r"`((?:crates|docs|examples|bench|model|runs|wrong|\.ci)/[^`\s]+)`")
 
 
 def documents():
@@ -21,25 +21,11 @@ def named(document):
         if "://" not in target:
             yield os.path.normpath(os.path.join(os.path.dirname(document), target))
     for path in PATH.findall(text):
-        if not re.search(r"[*]|NAME|CRATE|FILE|/out(/|$)", path):
+        if not re.search(r"[*{]|NAME|CRATE|FILE|/out(/|$)", path):
             yield path
 
 
-# The files of definitions that docs/DEFINITIONS.md leaves out, under the heading of their crate.
-def not_listed():
-    with open("docs/DEFINITIONS.md", encoding="utf-8") as opened:
-        parts = re.split(r"^## (\w+)$", opened.read(), flags=re.M)
-    rows = {crate: re.findall(r"^\| `(\w+)` \|", text, re.M) for crate, text in zip(parts[1::2], parts[2::2])}
-    for crate in sorted(os.listdir("crates")):
-        folder = os.path.join("crates", crate, "specs")
-        for name in sorted(os.listdir(folder)) if os.path.isdir(folder) else []:
-            topic = name.removesuffix(".antt")
-            if topic not in ("Lib", name) and topic not in rows.get(crate, []):
-                yield os.path.join(folder, name)
-
-
 wrong = ["%s names %s, which is missing" % (d, p) for d in documents() for p in named(d) if not os.path.exists(p)]
-wrong += ["docs/DEFINITIONS.md leaves out %s" % path for path in not_listed()]
 for line in wrong:
     print(line, file=sys.stderr)
 print(".ci/run: %d documents checked, %d faults" % (len(list(documents())), len(wrong)))

@@ -3,7 +3,7 @@ moves a single byte.
 
     .ci/faults.py PROGRAM
 
-Without memory the program ends as docs/REQUESTS.md says of it, a failed read or write likewise, and it has written the front of its replies;
+Without memory the program ends as docs/REQUESTS.md says of it, a failed read or write likewise, and it has written a prefix of its replies;
 a single byte changes nothing. The first run that differs is printed, and the status is then 1.
 """
 import json
@@ -73,7 +73,7 @@ def main(program):
                 print(f"{number - ended} of {number} calls without memory change nothing")
                 return 1
             counts.append(f"{ended} of {number}")
-        print(f"ended by want of memory: {counts[0]} calls; by a failed read or write: {counts[1]}; by a single byte moved: {counts[2]}")
+        print(f"out of memory: {counts[0]} calls end it; a failed read or write: {counts[1]}; a single byte moved: {counts[2]}")
         return 0
     finally:
         shutil.rmtree(folder)

@@ -1,6 +1,6 @@
-"""Runs the built program on scripts made at random, and compares what it writes with the model of the documents.
+"""Runs the built program on scripts made at random, and compares what it writes with the model.
 
-    .ci/compare.py PROGRAM [SEED [LINES]]     2,000 lines from seed 1 where none are given
+    model/compare.py PROGRAM [SEED [LINES]]     2,000 lines from seed 1 where none are given
 
 It prints the first line whose replies differ and ends with status 1, or prints how often each kind of reply was compared.
 """
@@ -34,7 +34,7 @@ NO_REQUESTS = [
 ]
 NAMES = [*"abcdef", "p", "s", "x_1", "none", "begins"]
 COMPUTED = [*"vwz", "x_w", "place", "both"]
-FRONTS = ["V-", "V-X", "A-x/", "x", "S-1kB", "S-1kBa", "S-", "a/b", "xé", "X/", "1", "x1x"]
+PREFIXES = ["V-", "V-X", "A-x/", "x", "S-1kB", "S-1kBa", "S-", "a/b", "xé", "X/", "1", "x1x"]
 SIGNS = [
     " ( ", " ) ", " AND ", " OR ", " NOT ", " IN ", " BETWEEN ", ",", " = ", " a ", " :a ", " #a ", " begins_with ", " attribute_exists ", "!", "-",
     "é", "#", ":", "<", ">",
@@ -156,7 +156,7 @@ class Scripts:
     # A test of a virtual field or a compound.
     def computed_test(self, values):
         placeholder = ":" + self.one_of("ij")
-        values[placeholder] = {"S": self.one_of(TEXTS + FRONTS)}
+        values[placeholder] = {"S": self.one_of(TEXTS + PREFIXES)}
         name = self.one_of(COMPUTED)
         return self.one_of([f"begins_with({name}, {placeholder})", f"{name} = {placeholder}", f"{placeholder} <= {name}", f"{name} IN ({placeholder}, a)"])
 

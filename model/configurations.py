@@ -1,6 +1,6 @@
 """What docs/CONFIGURATION.md says of configurations, once more in Python, and configurations made at random to compare the program with it.
 
-    .ci/configurations.py PROGRAM [SEED [COUNT]]     2,000 configurations from seed 1 where none are given
+    model/configurations.py PROGRAM [SEED [COUNT]]     2,000 configurations from seed 1 where none are given
 
 It prints the first configuration with which the program ends in another way and ends with status 1, or prints how often each end was compared.
 """

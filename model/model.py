@@ -45,9 +45,9 @@ def number(text):
     if not digits:
         refused(why="BadNumber")
     exponent = int(parts[4] or 0) - len(parts[3] or "")
-    front = digits.lstrip("0")
-    significant = front.rstrip("0")
-    exponent += len(front) - len(significant)
+    without_leading = digits.lstrip("0")
+    significant = without_leading.rstrip("0")
+    exponent += len(without_leading) - len(significant)
     if not significant:
         return Fraction(0)
     if len(significant) > 38 or not -130 <= exponent + len(significant) - 1 <= 125:
@@ -286,9 +286,9 @@ class Reader:
             self.take("(")
             name = self.operand("word", "#")
             self.take(",")
-            front = self.operand()
+            prefix = self.operand()
             self.take(")")
-            return "begins_with", name, front
+            return "begins_with", name, prefix
         return self.test(self.operand())
 
     def test(self, one):
@@ -369,8 +369,8 @@ class Reader:
         return whole(tree), names, values
 
 
-def begins(one, front):
-    return bool(one and front) and one[0] == front[0] and one[0] in ("S", "B") and one[1].startswith(front[1])
+def begins(one, prefix):
+    return bool(one and prefix) and one[0] == prefix[0] and one[0] in ("S", "B") and one[1].startswith(prefix[1])
 
 
 def place(at, size):
