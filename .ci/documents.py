@@ -1,10 +1,15 @@
-"""Checks that each file that a document names is there."""
+"""Checks that each file that a document names is there, and has the names that the document finds in it.
+
+Read are links, paths in backquotes, and "`NAME`, `NAME` in `PATH`" for a file of code or definitions.
+"""
 import os
 import re
 import sys
 
 LINK = re.compile(r"\]\(([^)#]+)(?:#[^)]*)?\)")
 PATH = re.compile(r"`((?:crates|docs|examples|bench|model|runs|wrong|\.ci)/[^`\s]+)`")
+
+NAMES = re.compile(r"(`[^`]+`(?:, `[^`]+`)*) in `((?:crates|docs)/[^`\s]+\.(?:rt|antt|py))`")
 
 
 def documents():
@@ -25,7 +30,21 @@ def named(document):
             yield path
 
 
+# The names that a document finds in a file that has no such word.
+def lost(document):
+    with open(document, encoding="utf-8") as opened:
+        pairs = NAMES.findall(opened.read())
+    for names, path in pairs:
+        if os.path.exists(path):
+            with open(path, encoding="utf-8") as opened:
+                words = set(re.split(r"[^\w-]+", opened.read()))
+            for name in re.findall(r"`([^`]+)`", names):
+                if name.rpartition("::")[2] not in words:
+                    yield "`%s` in %s" % (name, path)
+
+
 wrong = ["%s names %s, which is missing" % (d, p) for d in documents() for p in named(d) if not os.path.exists(p)]
+wrong += ["%s names %s, which is not in it" % (d, p) for d in documents() for p in lost(d)]
 for line in wrong:
     print(line, file=sys.stderr)
 print(".ci/run: %d documents checked, %d faults" % (len(list(documents())), len(wrong)))

@@ -1,3 +1,4 @@
+#!/usr/bin/env python3
 """Runs the built program on scripts made at random, and compares what it writes with the model.
 
     model/compare.py PROGRAM [SEED [LINES]]     2,000 lines from seed 1 where none are given

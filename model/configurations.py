@@ -1,3 +1,4 @@
+#!/usr/bin/env python3
 """What docs/CONFIGURATION.md says of configurations, once more in Python, and configurations made at random to compare the program with it.
 
     model/configurations.py PROGRAM [SEED [COUNT]]     2,000 configurations from seed 1 where none are given
