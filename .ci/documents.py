@@ -43,8 +43,22 @@ def lost(document):
                     yield "`%s` in %s" % (name, path)
 
 
+# Where docs/MAP.md and crates.txt differ in what a crate may rely on.
+def not_mapped():
+    with open("docs/MAP.md", encoding="utf-8") as opened:
+        rows = dict(re.findall(r"^\| \[?`(\w+)`.*?\|.*\| (.*) \|$", opened.read().split("\n## ")[1], re.M))
+    with open("crates.txt", encoding="utf-8") as opened:
+        lines = [line.partition("#")[0].partition(":") for line in opened]
+    for name, _, listed in lines:
+        row = rows.get(name.strip(), "")
+        is_same = set(re.findall(r"`(\w+)`", row)) == set(listed.split())
+        if name.strip() and not (is_same or row == "the libraries above"):
+            yield name.strip()
+
+
 wrong = ["%s names %s, which is missing" % (d, p) for d in documents() for p in named(d) if not os.path.exists(p)]
 wrong += ["%s names %s, which is not in it" % (d, p) for d in documents() for p in lost(d)]
+wrong += ["docs/MAP.md and crates.txt differ in what %s may rely on" % name for name in not_mapped()]
 for line in wrong:
     print(line, file=sys.stderr)
 print(".ci/run: %d documents checked, %d faults" % (len(list(documents())), len(wrong)))

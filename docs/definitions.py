@@ -1,12 +1,12 @@
 #!/usr/bin/env python3
 """Makes docs/DEFINITIONS.md from the definitions themselves, crates/*/specs/*.antt.
 
-    docs/definitions.py               writes the page
-    docs/definitions.py --check       status 1, and a line each, where the page differs or a file has no comment at its head
+    docs/definitions.py               writes the page, and the number of lines in the README
+    docs/definitions.py --check       status 1, and a line each, where these differ or a file has no comment at its head
     docs/definitions.py --trusted     prints what the contract of serve reaches: a row a file, and its lines of code
 
-What a file says and its source are its head's comment. What serve reaches is followed by names: from its contract and those of the
-traits that it names, through the lines 'use' of each file, definition by definition.
+What a file says and its source are its head's comment. What serve reaches is followed by names: from its contract and
+those of the traits that it names, through the lines 'use' of each file, definition by definition.
 """
 import collections
 import glob
@@ -15,16 +15,19 @@ import re
 import sys
 
 PAGE = "docs/DEFINITIONS.md"
+NUMBER = re.compile(r"[\d,]+(?= lines of definitions)")
 INTRO = """# Definitions
 
-The words of the contracts, crate by crate. `docs/definitions.py` makes this page from the files `crates/CRATE/specs/FILE.antt`. What a
-file says is the comment at its head. The comment names the source where that is outside; where it names none, the rule is this
-project's own. Words of the standard library and of the ported crates (`read` and `compact_text` of `serde_json`, `sha384` and `sha512`
-of `sha2`) are defined there.
+The words of the contracts, crate by crate. `docs/definitions.py` makes this page from the files
+`crates/CRATE/specs/FILE.antt`. What a file says is the comment at its head. The comment names the source where that is
+outside; where it names none, the rule is this project's own. Words of the standard library and of the ported crates
+(`read` and `compact_text` of `serde_json`, `sha384` and `sha512` of `sha2`) are defined there.
 
-What a reader of the headline has to trust are the definitions that the contract of `serve`, the whole run, reaches. They are
-%s, and have a column of their own. A file marked "Not to be read" says once more, in the
-steps of the code, what the files that it names say in fewer words; a clause or a law ties the two.
+What a reader of the headline has to trust are the definitions that the contract of `serve`, the whole run, reaches:
+%s. They have a column of their own.
+
+A file marked "Not to be read" says once more, in the steps of the code, what the files that it names say in fewer
+words; a clause or a law ties the two.
 """
 STARTS = re.compile(r"(?:(?:abbrev|unfoldable|infix[lr]?) |pub (?!mod |use )|mutual\b|data |record )")
 USE = re.compile(r"\s*(?:pub )?(?:ghost )?use (Rattle\.[\w.]+?)(?:\.\{([^}]*)\}| as (\w+))?;?\s*$")
@@ -45,8 +48,9 @@ class Block:
         head = next(line for line in self.code if not line.startswith("infix"))
         is_mutual = "mutual" in head.split()[:2]
         inner = [INNER.match(line) for line in self.code[1:]] if is_mutual else []
-        self.public = [found[2] for found in inner if found and found[1]] if is_mutual else [NAME.match(head)[1]] * ("pub " in head)
-        self.names = {found[2] for found in inner if found} if is_mutual else {NAME.match(head)[1]}
+        names = [(found[2], found[1]) for found in inner if found] if is_mutual else [(NAME.match(head)[1], "pub " in head)]
+        self.public = [name for name, is_public in names if is_public]
+        self.names = {name for name, _ in names}
         is_data = False
         for line in self.code:
             if re.match(r"\s*(?:pub )?data ", line):
@@ -152,10 +156,13 @@ class Reach:
     def lines(self, path):
         return sum(len(block.code) for block in self.blocks[path])
 
+    def whole(self):
+        return sum(map(self.lines, list(self.blocks)))
+
     # The rows of the option --trusted.
     def told(self):
         paths = [path for path in sorted(self.blocks) if self.blocks[path]]
-        marked = [path for path in paths if is_marked(next(file for file in self.files.values() if file.path == path))]
+        marked = [file.path for file in self.files.values() if file.path in paths and "Not to be read" in file.head]
         whole = sum(len(block.code) for file in self.files.values() for block in file.blocks)
         for path in paths:
             yield f"{self.lines(path):5}  {path}{'  (not to be read)' if path in marked else ''}"
@@ -170,15 +177,15 @@ class Reach:
     def sentence(self):
         paths = [path for path in self.blocks if self.blocks[path]]
         names = sum(len(block.public) for path in paths for block in self.blocks[path])
-        return f"{names} names in {len(paths)} files, {sum(map(self.lines, paths))} lines of code"
+        return f"{names:,} names in {len(paths)} files, {self.whole():,} lines of code"
 
 
 def code_lines(text):
     return [line for line in text.split("\n") if line.strip()]
 
 
-def is_marked(file):
-    return "Not to be read" in file.head
+def words_of(blocks):
+    return ", ".join(f"`{word}`" for block in blocks for word in block.public)
 
 
 def page(files):
@@ -189,12 +196,13 @@ def page(files):
     for crate in crates:
         own = {name: file for (of, name), file in files.items() if of == crate and name != "Lib"}
         if own:
-            yield f"## {crate}\n\n| File | What it says, and its source | Reached by `serve` | Other definitions |\n|---|---|---|---|"
+            yield f"## {crate}\n"
+            yield "| File | What it says, and its source | Reached by `serve` | Other definitions |\n|---|---|---|---|"
             for name, file in own.items():
-                reached = [word for block in file.blocks if block in reach.blocks[file.path] for word in block.public]
-                others = [word for block in file.blocks if block not in reach.blocks[file.path] for word in block.public]
-                said = file.head.replace("|", chr(92) + "|")
-                yield " | ".join([f"| `{name}`", said, *(", ".join(f"`{word}`" for word in words) for words in (reached, others))]) + " |"
+                reached = [block for block in file.blocks if block in reach.blocks[file.path]]
+                others = [block for block in file.blocks if block not in reach.blocks[file.path]]
+                said = file.head.replace("|", "\\|")
+                yield f"| `{name}` | {said} | {words_of(reached)} | {words_of(others)} |"
             yield ""
 
 
@@ -206,19 +214,26 @@ def main(arguments):
     if arguments == ["--trusted"]:
         print(*Reach(files).told(), sep="\n")
         return 0
-    text = "\n".join(page(files)).rstrip("\n") + "\n"
+    made = {PAGE: "\n".join(page(files)).rstrip("\n") + "\n"}
+    with open("README.md", encoding="utf-8") as opened:
+        made["README.md"] = NUMBER.sub(f"{Reach(files).whole():,}", opened.read())
     if arguments == ["--check"]:
-        with open(PAGE, encoding="utf-8") as opened:
-            wrong = [] if opened.read() == text else [f"{PAGE} is not what docs/definitions.py makes of the files: run it"]
-        wrong += [f"{file.path} has no comment at its head" for (_, name), file in files.items() if name != "Lib" and not file.head]
+        wrong = [f"{path} is not what docs/definitions.py makes of the files: run it" for path in made if is_old(path, made)]
+        wrong += [f"{it.path} has no comment at its head" for (_, name), it in files.items() if name != "Lib" and not it.head]
         print(*wrong, sep="\n", end="\n" if wrong else "", file=sys.stderr)
         return 1 if wrong else 0
     if arguments:
         print(__doc__, file=sys.stderr)
         return 2
-    with open(PAGE, "w", encoding="utf-8") as opened:
-        opened.write(text)
+    for path, text in made.items():
+        with open(path, "w", encoding="utf-8") as opened:
+            opened.write(text)
     return 0
+
+
+def is_old(path, made):
+    with open(path, encoding="utf-8") as opened:
+        return opened.read() != made[path]
 
 
 if __name__ == "__main__":
