@@ -46,9 +46,9 @@ class Block:
     def __init__(self, lines):
         self.code = [line for line in lines if line.strip() and not line.lstrip().startswith("--")]
         head = next(line for line in self.code if not line.startswith("infix"))
-        is_mutual = "mutual" in head.split()[:2]
-        inner = [INNER.match(line) for line in self.code[1:]] if is_mutual else []
-        names = [(found[2], found[1]) for found in inner if found] if is_mutual else [(NAME.match(head)[1], "pub " in head)]
+        names = [(NAME.match(head)[1], "pub " in head)]
+        if "mutual" in head.split()[:2]:
+            names = [(found[2], found[1]) for found in map(INNER.match, self.code) if found]
         self.public = [name for name, is_public in names if is_public]
         self.names = {name for name, _ in names}
         is_data = False
@@ -218,8 +218,9 @@ def main(arguments):
     with open("README.md", encoding="utf-8") as opened:
         made["README.md"] = NUMBER.sub(f"{Reach(files).whole():,}", opened.read())
     if arguments == ["--check"]:
-        wrong = [f"{path} is not what docs/definitions.py makes of the files: run it" for path in made if is_old(path, made)]
-        wrong += [f"{it.path} has no comment at its head" for (_, name), it in files.items() if name != "Lib" and not it.head]
+        bare = [file.path for (_, name), file in files.items() if name != "Lib" and not file.head]
+        wrong = [f"{path} is out of date: run docs/definitions.py" for path in made if is_old(path, made)]
+        wrong += [f"{path} has no comment at its head" for path in bare]
         print(*wrong, sep="\n", end="\n" if wrong else "", file=sys.stderr)
         return 1 if wrong else 0
     if arguments:
