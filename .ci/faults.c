@@ -1,5 +1,5 @@
-// Stands before the C library: the call of the number FAIL_MEMORY gets no memory, the read or write of the number FAIL fails, and that of
-// the number SHORT moves one byte. At the end COUNT has it print how many calls there were.
+// Stands before the C library: the call of the number FAIL_MEMORY gets no memory, the read or write of the number FAIL
+// fails, and that of the number SHORT moves one byte. At the end COUNT has it print how many calls there were.
 #define _GNU_SOURCE
 #include <dlfcn.h>
 #include <errno.h>

@@ -1,10 +1,10 @@
-"""Runs a small script once for each call for memory, which is refused in turn, and once for each read and write, which fails in turn or
-moves a single byte.
+"""Runs a small script once for each call for memory, which is refused in turn, and once for each read and write, which
+fails in turn or moves a single byte.
 
     .ci/faults.py PROGRAM
 
-Without memory the program ends as docs/REQUESTS.md says of it, a failed read or write likewise, and it has written a prefix of its replies;
-a single byte changes nothing. The first run that differs is printed, and the status is then 1.
+Without memory the program ends as docs/REQUESTS.md says of it, a failed read or write likewise, and it has written a
+prefix of its replies; a single byte changes nothing. The first run that differs is printed, and the status is then 1.
 """
 import json
 import os
@@ -20,18 +20,25 @@ CONFIG = {
     "virtual": [{"name": "domain", "parts": [{"from": "email", "steps": [["segment", "@", 1], ["lower"]]}]}],
     "beacons": [{"name": "domain", "length": 10}],
     "compounds": [{"name": "place", "split": ".", "parts": [
-        {"name": "st", "prefix": "S-", "kind": "signed", "from": "state"}, {"name": "tn", "prefix": "T-", "kind": "signed", "from": "town"}]}]}
+        {"name": "st", "prefix": "S-", "kind": "signed", "from": "state"},
+        {"name": "tn", "prefix": "T-", "kind": "signed", "from": "town"}]}]}
 ANN = {
-    "id": {"S": "a"}, "n": {"N": "1"}, "email": {"S": "Ann@Example.COM"}, "state": {"S": "WA"}, "town": {"S": "Seattle"}, "tags": {"SS": ["b", "a"]},
+    "id": {"S": "a"}, "n": {"N": "1"}, "email": {"S": "Ann@Example.COM"}, "state": {"S": "WA"},
+    "town": {"S": "Seattle"}, "tags": {"SS": ["b", "a"]},
     ":more": {"M": {"x": {"L": [{"B": "AQ=="}, {"NULL": True}]}}}}
 SCRIPT = [
-    {"put": ANN}, {"put": {"id": {"S": "a"}, "n": {"N": "2"}, "state": {"S": "OR"}}}, {"put": {"id": {"S": "a"}, "n": {"N": "2"}, "other": {"S": "x"}}},
+    {"put": ANN}, {"put": {"id": {"S": "a"}, "n": {"N": "2"}, "state": {"S": "OR"}}},
+    {"put": {"id": {"S": "a"}, "n": {"N": "2"}, "other": {"S": "x"}}},
     {"get": {"id": {"S": "a"}, "n": {"N": "1.0"}}}, {"check": {"id": {"S": "a"}, "n": {"N": "2"}}},
     {"query": {
-        "condition": "state IN (:w, :o) AND NOT n BETWEEN :one AND :one OR begins_with(#t, :w)", "names": {"#t": "town"},
+        "condition": "state IN (:w, :o) AND NOT n BETWEEN :one AND :one OR begins_with(#t, :w)",
+        "names": {"#t": "town"},
         "values": {":w": {"S": "WA"}, ":o": {"S": "OR"}, ":one": {"N": "1"}}}},
-    {"query": {"condition": "domain = :d OR place = :p", "values": {":d": {"S": "example.com"}, ":p": {"S": "S-WA.T-Seattle"}}}},
-    {"explain": {"condition": "state = :w AND attribute_exists(tags)", "values": {":w": {"S": "WA"}}}}, {"query": {"condition": "state = "}}, "none"]
+    {"query": {
+        "condition": "domain = :d OR place = :p",
+        "values": {":d": {"S": "example.com"}, ":p": {"S": "S-WA.T-Seattle"}}}},
+    {"explain": {"condition": "state = :w AND attribute_exists(tags)", "values": {":w": {"S": "WA"}}}},
+    {"query": {"condition": "state = "}}, "none"]
 ENDS = {"FAIL_MEMORY": ["dbe: memory\n"], "FAIL": ["dbe: read\n", "dbe: write\n"], "SHORT": []}
 CODES = {"": 0, "dbe: memory\n": 10, "dbe: read\n": 4, "dbe: write\n": 5}
 # The calls for memory that the loader makes for faults.c itself.
@@ -50,7 +57,8 @@ def main(program):
 
         def run(**which):
             told = {name: str(number) for name, number in which.items()}
-            done = subprocess.run([program], input=script, cwd=folder, env={"LD_PRELOAD": before, **told}, capture_output=True, check=False)
+            done = subprocess.run([program], input=script, cwd=folder, env={"LD_PRELOAD": before, **told},
+                capture_output=True, check=False)
             return done.returncode, done.stdout, done.stderr.decode()
 
         code, whole, said = run(COUNT=1)
@@ -73,7 +81,8 @@ def main(program):
                 print(f"{number - ended} of {number} calls without memory change nothing")
                 return 1
             counts.append(f"{ended} of {number}")
-        print(f"out of memory: {counts[0]} calls end it; a failed read or write: {counts[1]}; a single byte moved: {counts[2]}")
+        memory, failed, shorter = counts
+        print(f"out of memory: {memory} calls end it; a failed read or write: {failed}; a single byte moved: {shorter}")
         return 0
     finally:
         shutil.rmtree(folder)

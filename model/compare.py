@@ -3,7 +3,8 @@
 
     model/compare.py PROGRAM [SEED [LINES]]     2,000 lines from seed 1 where none are given
 
-It prints the first line whose replies differ and ends with status 1, or prints how often each kind of reply was compared.
+It prints the first line whose replies differ and ends with status 1, or prints how often each kind of reply was
+compared.
 """
 import collections
 import json
@@ -16,28 +17,37 @@ import tempfile
 import model
 
 NUMBERS = [
-    "0", "-0", "1", "1.0", "+1", "10", "9", "-1", "-10", "0.1", "1e-1", "2.50", "2.5", ".5", "5.", "00012", "1E+2", "-1e-3", "1e125", "1e126",
-    "1e-130", "1e-131", "9" * 38, "9" * 39, "123456789012345678901234567890", "1e", "x", "", " 1", "1" + "0" * 125, "1e99999999999999999999",
+    "0", "-0", "1", "1.0", "+1", "10", "9", "-1", "-10", "0.1", "1e-1", "2.50", "2.5", ".5", "5.", "00012", "1E+2",
+    "-1e-3", "1e125", "1e126",
+    "1e-130", "1e-131", "9" * 38, "9" * 39, "123456789012345678901234567890", "1e", "x", "", " 1", "1" + "0" * 125,
+    "1e99999999999999999999",
     "0e99999999999999999999", "1e-" + "0" * 40 + "2", "0." + "0" * 129 + "1", "\u0661",
 ]
 TEXTS = ["a/xb/", "x/y", "/", "Kk", "kxk", "ab/Éé/c",
     "", "x", "xy", "y", "X", "é", "z\x00", '"q"', "\\", "\x1f", "\x7f", "😀", "x y", "a/b", "\u2028", "\ufeff"]
-BINARIES = ["", "AQ==", "AQI=", "Ag==", "AA==", "/+8=", "////", "AQIDBA==", "AB==", "_-8=", "AQ", "A===", "AQ==AQ==", "AQ ="]
+BINARIES = [
+    "", "AQ==", "AQI=", "Ag==", "AA==", "/+8=", "////", "AQIDBA==", "AB==", "_-8=", "AQ", "A===", "AQ==AQ==", "AQ ="]
 SCALARS = {"S": TEXTS, "N": NUMBERS, "B": BINARIES}
 NO_VALUES = [
-    1, None, "x", [], {}, {"S": 1}, {"N": 1}, {"X": "y"}, {"S": "a", "N": "1"}, {"NULL": False}, {"BOOL": "true"}, {"SS": []}, {"SS": "a"},
-    {"L": {}}, {"M": []}, {"SS": ["a", 1]}, {"SS": ["a", "a", 1]}, {"NS": ["1", "1.0", "x"]}, {"NS": ["x", "1", "1.0"]}, {"BS": ["AQ==", "AQ=="]},
+    1, None, "x", [], {}, {"S": 1}, {"N": 1}, {"X": "y"}, {"S": "a", "N": "1"}, {"NULL": False}, {"BOOL": "true"},
+    {"SS": []}, {"SS": "a"},
+    {"L": {}}, {"M": []}, {"SS": ["a", 1]}, {"SS": ["a", "a", 1]}, {"NS": ["1", "1.0", "x"]}, {"NS": ["x", "1", "1.0"]},
+    {"BS": ["AQ==", "AQ=="]},
 ]
 NO_REQUESTS = [
-    b"", b"{}", b"[]", b"x", b" ", b"1", b"null", b"\xff", b'{"put":1}', b'{"drop":{}}', b'{"put":{},"get":{}}', b'{"put":NaN}', b'{"put":{}}x',
-    b'{"query":{"condition":1}}', b'{"create":"a b"}', b'{"create":""}', b'{"rotate":"' + b"b" * 64 + b'"}', b'{"rotate":"' + b"b" * 65 + b'"}',
-    b'{"get":{"p":{"S":"k"},"s":{"N":"1"}},"get":{"p":{"S":"l"},"s":{"N":"1"}}}', b'{"put":{"p":{"S":"\\ud800"},"s":{"N":"1"}}}',
+    b"", b"{}", b"[]", b"x", b" ", b"1", b"null", b"\xff", b'{"put":1}', b'{"drop":{}}', b'{"put":{},"get":{}}',
+    b'{"put":NaN}', b'{"put":{}}x',
+    b'{"query":{"condition":1}}', b'{"create":"a b"}', b'{"create":""}', b'{"rotate":"' + b"b" * 64 + b'"}',
+    b'{"rotate":"' + b"b" * 65 + b'"}',
+    b'{"get":{"p":{"S":"k"},"s":{"N":"1"}},"get":{"p":{"S":"l"},"s":{"N":"1"}}}',
+    b'{"put":{"p":{"S":"\\ud800"},"s":{"N":"1"}}}',
 ]
 NAMES = [*"abcdef", "p", "s", "x_1", "none", "begins"]
 COMPUTED = [*"vwz", "x_w", "place", "both"]
 PREFIXES = ["V-", "V-X", "A-x/", "x", "S-1kB", "S-1kBa", "S-", "a/b", "xé", "X/", "1", "x1x"]
 SIGNS = [
-    " ( ", " ) ", " AND ", " OR ", " NOT ", " IN ", " BETWEEN ", ",", " = ", " a ", " :a ", " #a ", " begins_with ", " attribute_exists ", "!", "-",
+    " ( ", " ) ", " AND ", " OR ", " NOT ", " IN ", " BETWEEN ", ",", " = ", " a ", " :a ", " #a ", " begins_with ",
+    " attribute_exists ", "!", "-",
     "é", "#", ":", "<", ">",
 ]
 
@@ -110,7 +120,10 @@ class Scripts:
         if self.chance(0.1):
             item[self.one_of(["x_1", "x_w"])] = self.shared(0.01)
         if self.chance(0.05):
-            item[self.one_of(["g", "aws_dbe_x", "aws_db", "x_", "X_1", "", "n" * 255, "n" * 256, "x_" + "é" * 126, "x_" + "é" * 127])] = self.value(2, 0.1)
+            inner = self.value(2, 0.1)
+            item[self.one_of([
+                "g", "aws_dbe_x", "aws_db", "x_", "X_1", "", "n" * 255, "n" * 256, "x_" + "é" * 126, "x_" + "é" * 127,
+            ])] = inner
         if self.chance(0.002):
             item.update(("x_%d" % n, {"NULL": True}) for n in range(self.one_of([990, 998, 999, 1000])))
         if self.chance(0.002):
@@ -129,7 +142,8 @@ class Scripts:
             values.setdefault(placeholder, self.shared(0.005))
             return placeholder
         placeholder = "#" + self.one_of("abc")
-        names.setdefault(placeholder, self.one_of(NAMES + COMPUTED + ["IN", "aws_dbe_q"] if self.chance(0.05) else NAMES))
+        choices = NAMES + COMPUTED + ["IN", "aws_dbe_q"] if self.chance(0.05) else NAMES
+        names.setdefault(placeholder, self.one_of(choices))
         return placeholder
 
     def name(self, names, values):
@@ -151,7 +165,8 @@ class Scripts:
         if form < 0.3:
             return "(" + self.condition(levels - 1, names, values) + ")"
         if form < 0.6:
-            return self.condition(levels - 1, names, values) + self.word(self.one_of(["AND", "OR"])) + self.condition(levels - 1, names, values)
+            one = self.condition(levels - 1, names, values)
+            return one + self.word(self.one_of(["AND", "OR"])) + self.condition(levels - 1, names, values)
         return self.test(names, values)
 
     # A test of a virtual field or a compound.
@@ -159,7 +174,8 @@ class Scripts:
         placeholder = ":" + self.one_of("ij")
         values[placeholder] = {"S": self.one_of(TEXTS + PREFIXES)}
         name = self.one_of(COMPUTED)
-        return self.one_of([f"begins_with({name}, {placeholder})", f"{name} = {placeholder}", f"{placeholder} <= {name}", f"{name} IN ({placeholder}, a)"])
+        return self.one_of([f"begins_with({name}, {placeholder})", f"{name} = {placeholder}",
+            f"{placeholder} <= {name}", f"{name} IN ({placeholder}, a)"])
 
     def test(self, names, values):
         if self.chance(0.05):
@@ -167,9 +183,11 @@ class Scripts:
         form = self.random.random()
         one = self.operand(names, values)
         if form < 0.5:
-            return one + self.one_of(["", " "]) + self.one_of(list(model.COMPARISONS)) + self.one_of(["", " "]) + self.operand(names, values)
+            sign = self.one_of(["", " "]) + self.one_of(list(model.COMPARISONS)) + self.one_of(["", " "])
+            return one + sign + self.operand(names, values)
         if form < 0.65:
-            return one + self.word("BETWEEN") + self.operand(names, values) + self.word("AND") + self.operand(names, values)
+            low = self.word("BETWEEN") + self.operand(names, values)
+            return one + low + self.word("AND") + self.operand(names, values)
         if form < 0.8:
             size = self.one_of([99, 100, 101]) if self.chance(0.03) else self.random.randint(1, 4)
             return one + self.word("IN") + "(" + ", ".join(self.operand(names, values) for _ in range(size)) + ")"
@@ -247,7 +265,8 @@ def without_doubles(kind, elements):
     found = []
     for element in elements:
         if not is_scalar(kind, element) or all(
-                not is_scalar(kind, other) or model.scalar(kind, element) != model.scalar(kind, other) for other in found):
+                not is_scalar(kind, other) or model.scalar(kind, element) != model.scalar(kind, other)
+                for other in found):
             found.append(element)
     return found
 
@@ -255,7 +274,8 @@ def without_doubles(kind, elements):
 def kind_of(reply):
     if "refused" in reply:
         return " ".join(reply[member] for member in ("refused", "why") if member in reply)
-    return next(member for member in ("ok", "item", "none", "checked", "count", "condition", "every") if member in reply)
+    return next(member for member in ("ok", "item", "none", "checked", "count", "condition", "every")
+        if member in reply)
 
 
 def main(program, seed=1, size=2000):
@@ -264,14 +284,16 @@ def main(program, seed=1, size=2000):
     with tempfile.TemporaryDirectory() as folder:
         with open(folder + "/dbe.json", "w", encoding="utf-8") as config:
             config.write(json.dumps(model.CONFIG))
-        run = subprocess.run([program], input=b"".join(line + b"\n" for line in lines), cwd=folder, stdout=subprocess.PIPE, check=True)
+        run = subprocess.run([program], input=b"".join(line + b"\n" for line in lines), cwd=folder,
+            stdout=subprocess.PIPE, check=True)
     written = run.stdout.decode().split("\n")
     table, at, kinds = model.Table(), 0, collections.Counter()
     for line in lines:
         replies = table.replies(line)
         texts = [model.text(reply) for reply in replies]
         if written[at:at + len(texts)] != texts:
-            print(line[:2000], "", "The model says:", *texts, "", "The program says:", *written[at:at + len(texts)], sep="\n")
+            print(line[:2000], "", "The model says:", *texts, "", "The program says:", *written[at:at + len(texts)],
+                sep="\n")
             return 1
         at += len(texts)
         kinds.update(map(kind_of, replies))

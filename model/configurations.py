@@ -1,9 +1,11 @@
 #!/usr/bin/env python3
-"""What docs/CONFIGURATION.md says of configurations, once more in Python, and configurations made at random to compare the program with it.
+"""What docs/CONFIGURATION.md says of configurations, once more in Python, and the program compared with it over
+configurations made at random.
 
     model/configurations.py PROGRAM [SEED [COUNT]]     2,000 configurations from seed 1 where none are given
 
-It prints the first configuration with which the program ends in another way and ends with status 1, or prints how often each end was compared.
+It prints the first configuration with which the program ends in another way and ends with status 1, or prints how
+often each end was compared.
 """
 import collections
 import copy
@@ -17,11 +19,13 @@ import tempfile
 WHOLE = {
     "table": "people", "partition": {"name": "id", "type": "S"}, "sort": {"name": "entry", "type": "N"},
     "actions": {
-        "ssn": "ENCRYPT_AND_SIGN", "state": "ENCRYPT_AND_SIGN", "email": "ENCRYPT_AND_SIGN", "town": "SIGN_ONLY", "entry": "SIGN_ONLY",
+        "ssn": "ENCRYPT_AND_SIGN", "state": "ENCRYPT_AND_SIGN", "email": "ENCRYPT_AND_SIGN", "town": "SIGN_ONLY",
+        "entry": "SIGN_ONLY",
         "note": "DO_NOTHING"},
     "unsigned_prefix": ":", "context": {"app": "demo"},
     "recipients": [
-        {"kind": "raw", "namespace": "n", "name": "one", "key": "00" * 32}, {"kind": "raw", "namespace": "n", "name": "two", "key": "aF" * 32},
+        {"kind": "raw", "namespace": "n", "name": "one", "key": "00" * 32},
+        {"kind": "raw", "namespace": "n", "name": "two", "key": "aF" * 32},
         {"kind": "branch", "branch": "main"}],
     "beacon_branch": "main",
     "virtual": [
@@ -35,8 +39,11 @@ WHOLE = {
             {"name": "st", "prefix": "S-", "kind": "encrypted", "from": "state"},
             {"name": "tn", "prefix": "T-", "kind": "signed", "from": "town"},
             {"name": "key", "prefix": "K-", "kind": "signed", "from": "id"}],
-         "constructors": [[{"part": "tn", "required": True}, {"part": "st", "required": False}], [{"part": "key", "required": True}]]},
-        {"name": "where", "split": "~", "parts": [{"name": "st", "prefix": "S", "kind": "encrypted", "from": "state"}]}],
+         "constructors": [
+             [{"part": "tn", "required": True}, {"part": "st", "required": False}],
+             [{"part": "key", "required": True}]]},
+        {"name": "where", "split": "~",
+         "parts": [{"name": "st", "prefix": "S", "kind": "encrypted", "from": "state"}]}],
 }
 PLAIN = {**WHOLE, "recipients": []}
 
@@ -81,7 +88,8 @@ def is_step(data):
         return False
     place, one = lambda number: is_whole(number, -65536, 65536), lambda text: isinstance(text, str) and len(text) == 1
     forms = {
-        "upper": [], "lower": [], "insert": [is_any_text], "prefix": [place], "suffix": [place], "substring": [place, place],
+        "upper": [], "lower": [], "insert": [is_any_text], "prefix": [place], "suffix": [place],
+        "substring": [place, place],
         "segment": [one, place], "segments": [one, place, place]}
     form = forms.get(data[0])
     return form is not None and len(form) == len(data) - 1 and all(is_it(inner) for is_it, inner in zip(form, data[1:]))
@@ -90,7 +98,8 @@ def is_step(data):
 def is_recipient(data):
     texts = lambda text: is_text(text, 1, 255)
     raw = {
-        "kind": lambda kind: kind == "raw", "namespace": lambda text: texts(text) and text != "dbe-hierarchy", "name": texts,
+        "kind": lambda kind: kind == "raw", "namespace": lambda text: texts(text) and text != "dbe-hierarchy",
+        "name": texts,
         "key": lambda key: isinstance(key, str) and re.fullmatch("[0-9A-Fa-f]{64}", key) is not None}
     return is_object(data, raw) or is_object(data, {"kind": lambda kind: kind == "branch", "branch": is_branch})
 
@@ -101,11 +110,14 @@ def is_virtual(data):
 
 
 def is_compound(data):
-    part = {"name": is_any_text, "prefix": is_any_text, "kind": lambda kind: kind in ("encrypted", "signed"), "from": is_any_text}
+    part = {"name": is_any_text, "prefix": is_any_text, "kind": lambda kind: kind in ("encrypted", "signed"),
+        "from": is_any_text}
     member = {"part": is_any_text, "required": lambda required: isinstance(required, bool)}
     constructor = lambda inner: isinstance(inner, list) and all(is_object(one, member) for one in inner)
     return is_object(
-        data, {"name": is_name, "split": is_any_text, "parts": lambda parts: is_list(parts, 16, lambda inner: is_object(inner, part))},
+        data,
+        {"name": is_name, "split": is_any_text,
+         "parts": lambda parts: is_list(parts, 16, lambda inner: is_object(inner, part))},
         {"constructors": lambda constructors: is_list(constructors, 16, constructor)})
 
 
@@ -122,7 +134,8 @@ def has_form(data):
             is_text(name, 1, 255) and is_text(text, 0, 1024) for name, text in pairs.items()),
         "beacon_branch": is_branch, "virtual": lambda fields: is_list(fields, 64, is_virtual),
         "beacons": lambda beacons: is_list(
-            beacons, 64, lambda beacon: is_object(beacon, {"name": is_any_text, "length": lambda length: type(length) is int})),
+            beacons, 64,
+            lambda beacon: is_object(beacon, {"name": is_any_text, "length": lambda length: type(length) is int})),
         "compounds": lambda compounds: is_list(compounds, 16, is_compound),
     })
 
@@ -158,21 +171,28 @@ def refusal(text):
     rules = [
         ("KeyAction", any(actions.get(key, "SIGN_ONLY") != "SIGN_ONLY" for key in keys)),
         ("ReservedName", any(name.startswith("aws_dbe_") for name in [*keys, *actions, *made])),
-        ("NameTwice", has_twice(keys) or has_twice(made) or any(name in keys or name in actions for name in made) or has_twice(sources)
+        ("NameTwice", has_twice(keys) or has_twice(made) or any(name in keys or name in actions for name in made)
+            or has_twice(sources)
             or any(has_twice(part["name"] for part in compound["parts"]) for compound in compounds)
             or any(has_twice(member["part"] for member in constructor) for _, constructor in lists)),
         ("BeaconLength", any(not 1 <= beacon["length"] <= 63 for beacon in beacons)),
-        ("BeaconSource", any(not is_signed(part["from"]) and not is_sealed(part["from"]) for field in virtual for part in field["parts"])
+        ("BeaconSource", any(not is_signed(part["from"]) and not is_sealed(part["from"])
+                for field in virtual for part in field["parts"])
             or any(not is_sealed(name) and name not in fields for name in sources)
-            or any(part["from"] not in sources if part["kind"] == "encrypted" else not is_signed(part["from"]) for part in parts)
-            or any(member["part"] not in [part["name"] for part in compound["parts"]] for compound, constructor in lists for member in constructor)
+            or any(part["from"] not in sources if part["kind"] == "encrypted" else not is_signed(part["from"])
+                for part in parts)
+            or any(member["part"] not in [part["name"] for part in compound["parts"]]
+                for compound, constructor in lists for member in constructor)
             or bool(recipients and (beacons or compounds) and "beacon_branch" not in data)),
         ("PrefixClash", any(not part["prefix"] for part in parts) or any(
             other is not part and other["prefix"].startswith(part["prefix"])
             for compound in compounds for part in compound["parts"] for other in compound["parts"])),
-        ("SplitChar", any(not re.fullmatch("[!-~]", compound["split"]) or any(compound["split"] in part["prefix"] for part in compound["parts"])
+        ("SplitChar", any(
+            not re.fullmatch("[!-~]", compound["split"])
+            or any(compound["split"] in part["prefix"] for part in compound["parts"])
             for compound in compounds)),
-        ("ConstructorEmpty", any(not compound["parts"] or compound.get("constructors", [0]) == [] for compound in compounds)
+        ("ConstructorEmpty", any(
+                not compound["parts"] or compound.get("constructors", [0]) == [] for compound in compounds)
             or any(not any(member["required"] for member in constructor) for _, constructor in lists)),
         ("RecipientTwice", has_twice(raw) or len(recipients) - len(raw) > 1),
         ("TooManyRecipients", len(recipients) > 8),
@@ -182,11 +202,16 @@ def refusal(text):
 
 
 TEXTS = [
-    "", "id", "entry", "ssn", "state", "email", "town", "note", "domain", "short", "place", "st", "tn", "key", "aws_dbe_", "aws_dbe_x", "x", "S", "S-",
-    "S-T", ".", "-", "~", "!", " ", "é", "@", "..", "n" * 245, "n" * 246, "n" * 255, "n" * 256, "é" * 127, "é" * 128, "raw", "branch", "signed",
-    "encrypted", "SIGN_ONLY", "ENCRYPT_AND_SIGN", "DO_NOTHING", "dbe-hierarchy", "n", "one", "b" * 64, "b" * 65, "0F" * 32, "0G" * 32, "v" * 1024,
+    "", "id", "entry", "ssn", "state", "email", "town", "note", "domain", "short", "place", "st", "tn", "key",
+    "aws_dbe_", "aws_dbe_x", "x", "S", "S-",
+    "S-T", ".", "-", "~", "!", " ", "é", "@", "..", "n" * 245, "n" * 246, "n" * 255, "n" * 256, "é" * 127, "é" * 128,
+    "raw", "branch", "signed",
+    "encrypted", "SIGN_ONLY", "ENCRYPT_AND_SIGN", "DO_NOTHING", "dbe-hierarchy", "n", "one", "b" * 64, "b" * 65,
+    "0F" * 32, "0G" * 32, "v" * 1024,
     "v" * 1025, "upper", "segment"]
-OTHERS = [None, True, False, 0, 1, 63, 64, -1, 65536, 65537, -65536, -65537, 8.0, 1e3, [], {}, [[]], ["upper"], ["prefix", 1], ["segment", "@@", 1]]
+OTHERS = [
+    None, True, False, 0, 1, 63, 64, -1, 65536, 65537, -65536, -65537, 8.0, 1e3, [], {}, [[]], ["upper"],
+    ["prefix", 1], ["segment", "@@", 1]]
 
 
 # A place in the data: a container and the name or number of what it holds.
@@ -199,7 +224,8 @@ def places(data):
     return found
 
 
-# Something else of the same type, most often what stands at a member of the same name, or another text or number of the same data.
+# Something else of the same type, most often what stands at a member of the same name, or another text or number of the
+# same data.
 def alike(choices, old, spots, at):
     form = choices.random()
     if isinstance(old, bool):
@@ -248,7 +274,8 @@ def changed(choices, data):
 def made(choices):
     data = changed(choices, choice_of(choices))
     if choices.random() < 0.02 and isinstance(data.get("actions"), dict):
-        data["actions"].update(("name%d" % number, "SIGN_ONLY") for number in range(choices.choice([990, 994, 995, 1000])))
+        data["actions"].update(("name%d" % number, "SIGN_ONLY")
+            for number in range(choices.choice([990, 994, 995, 1000])))
     if choices.random() < 0.02 and isinstance(data.get("context"), dict):
         data["context"].update(("name%d" % number, "x") for number in range(choices.choice([31, 32])))
     members = list(data.items())
@@ -283,10 +310,12 @@ def main(program, seed=1, count=2000):
             why = refusal(text)
             expected = (3, f"dbe: config {why}\n") if why else (0, "")
             if (run.returncode, run.stderr.decode()) != expected or run.stdout:
-                print(text[:4000].decode(errors="replace"), f"The model says: {expected}", f"The program: {run.returncode}, {run.stderr.decode()!r}", sep="\n")
+                print(text[:4000].decode(errors="replace"), f"The model says: {expected}",
+                    f"The program: {run.returncode}, {run.stderr.decode()!r}", sep="\n")
                 return 1
             ends[why or "accepted"] += 1
-    print(f"{count} configurations from seed {seed}, each as the model says: " + ", ".join(f"{ends[why]} {why}" for why in sorted(ends)))
+    print(f"{count} configurations from seed {seed}, each as the model says: "
+        + ", ".join(f"{ends[why]} {why}" for why in sorted(ends)))
     return 0
 
 

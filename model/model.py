@@ -1,7 +1,7 @@
-"""What the documents say of requests, once more in Python: the replies to a script over one configuration with a sort key.
+"""What the documents say of requests, once more in Python: the replies to a script over one configuration.
 
-Written from docs/REQUESTS.md, docs/CONDITIONS.md, docs/CONFIGURATION.md and docs/FORMATS.md alone, and not from the program. It keeps
-the order of refusals and the meaning of conditions, virtual fields and compounds, with exact numbers.
+Written from docs/REQUESTS.md, docs/CONDITIONS.md, docs/CONFIGURATION.md and docs/FORMATS.md alone, and not from the
+program. It keeps the order of refusals and the meaning of conditions, virtual fields and compounds, with exact numbers.
 """
 import base64
 import json
@@ -10,7 +10,8 @@ from fractions import Fraction
 
 CONFIG = {
     "table": "model", "partition": {"name": "p", "type": "S"}, "sort": {"name": "s", "type": "N"},
-    "actions": {**{name: "SIGN_ONLY" for name in "abcde"}, "f": "ENCRYPT_AND_SIGN"}, "unsigned_prefix": "x_", "recipients": [],
+    "actions": {**{name: "SIGN_ONLY" for name in "abcde"}, "f": "ENCRYPT_AND_SIGN"}, "unsigned_prefix": "x_",
+    "recipients": [],
     "beacons": [{"name": "f", "length": 8}, {"name": "v", "length": 1}],
     "virtual": [
         {"name": "v", "parts": [{"from": "a", "steps": [["segment", "/", 1], ["upper"]]}]},
@@ -18,16 +19,19 @@ CONFIG = {
             {"from": "f", "steps": [["lower"], ["suffix", -1]]}, {"from": "s", "steps": []},
             {"from": "b", "steps": [["prefix", -1], ["insert", "\u00e9/x"], ["substring", -4, 3]]}]},
         {"name": "x_w", "parts": [{"from": "p", "steps": [["segments", "k", 0, -1], ["suffix", 2]]}]},
-        {"name": "z", "parts": [{"from": "b", "steps": [["segments", "/", -2, 9], ["prefix", 9], ["substring", 2, 1], ["insert", "x"]]}]}],
+        {"name": "z", "parts": [
+            {"from": "b", "steps": [["segments", "/", -2, 9], ["prefix", 9], ["substring", 2, 1], ["insert", "x"]]}]}],
     "compounds": [
         {"name": "place", "split": "/", "parts": [
-            {"name": "f", "prefix": "x", "kind": "encrypted", "from": "f"}, {"name": "v", "prefix": "V-", "kind": "encrypted", "from": "v"},
+            {"name": "f", "prefix": "x", "kind": "encrypted", "from": "f"},
+            {"name": "v", "prefix": "V-", "kind": "encrypted", "from": "v"},
             {"name": "a", "prefix": "A-", "kind": "signed", "from": "a"}],
          "constructors": [
              [{"part": "v", "required": True}, {"part": "f", "required": False}],
              [{"part": "a", "required": True}, {"part": "f", "required": True}], [{"part": "f", "required": True}]]},
         {"name": "both", "split": "k", "parts": [
-            {"name": "", "prefix": "S-", "kind": "signed", "from": "s"}, {"name": "b", "prefix": "B", "kind": "signed", "from": "b"}]}],
+            {"name": "", "prefix": "S-", "kind": "signed", "from": "s"},
+            {"name": "b", "prefix": "B", "kind": "signed", "from": "b"}]}],
 }
 
 
@@ -124,7 +128,8 @@ def spelled(of):
         return {kind: [spelled((kind[0], element))[kind[0]] for element in inner]}
     return {kind: {
         "S": lambda: inner.decode(), "N": lambda: number_text(inner), "B": lambda: base64.b64encode(inner).decode(),
-        "L": lambda: [spelled(element) for element in inner], "M": lambda: {name: spelled(element) for name, element in inner},
+        "L": lambda: [spelled(element) for element in inner],
+        "M": lambda: {name: spelled(element) for name, element in inner},
     }.get(kind, lambda: inner)()}
 
 
@@ -156,7 +161,8 @@ def item(data):
 
 # The names, types and greatest lengths in bytes of the keys.
 def keys():
-    return [(CONFIG[which]["name"], CONFIG[which]["type"], most) for which, most in (("partition", 2048), ("sort", 1024)) if which in CONFIG]
+    limits = {"partition": 2048, "sort": 1024}
+    return [(CONFIG[which]["name"], CONFIG[which]["type"], most) for which, most in limits.items() if which in CONFIG]
 
 
 def key(of):
@@ -346,7 +352,8 @@ class Reader:
         names, values = {}, {}
 
         def operand(part):
-            found, mark, inner = (values, ":", self.values.get(part)) if part[0] == ":" else (names, "#", self.name_of(part))
+            is_value = part[0] == ":"
+            found, mark, inner = (values, ":", self.values[part]) if is_value else (names, "#", self.name_of(part))
             found[mark + str(len(found))] = inner
             return mark + str(len(found) - 1)
 
@@ -442,7 +449,8 @@ def extended(row):
     texts = {field["name"]: virtual_text(field, row) for field in CONFIG["virtual"]}
     for compound in CONFIG["compounds"]:
         used = used_parts(compound, row)
-        texts[compound["name"]] = None if used is None else compound["split"].join(part["prefix"] + inner for part, inner in used)
+        pieces = None if used is None else [part["prefix"] + inner for part, inner in used]
+        texts[compound["name"]] = None if pieces is None else compound["split"].join(pieces)
     return {**found, **{name: ("S", inner.encode()) for name, inner in texts.items() if inner is not None}}
 
 
@@ -481,7 +489,8 @@ class Table:
         if not isinstance(request, dict) or len(request) != 1:
             refused(refused="shape")
         (call, body), = request.items()
-        if call in ("put", "get", "check") and isinstance(body, dict) and (call == "put" or set(body) == {name for name, _, _ in keys()}):
+        is_key = isinstance(body, dict) and set(body) == {name for name, _, _ in keys()}
+        if call == "put" and isinstance(body, dict) or call in ("get", "check") and is_key:
             return getattr(self, call)(item(body))
         if call in ("query", "explain") and isinstance(body, dict):
             return getattr(self, call)(*self.read(**self.asked(body)))
@@ -515,12 +524,14 @@ class Table:
 
     def check(self, wanted):
         row = self.rows.get(key(wanted))
-        return [{"checked": {"beacons": True, "encrypted": 0, "recipient": None, "signed": 0}} if row else {"none": True}]
+        checked = {"beacons": True, "encrypted": 0, "recipient": None, "signed": 0}
+        return [{"checked": checked} if row else {"none": True}]
 
     def asked(self, body):
         names, values = body.get("names", {}), body.get("values", {})
         right = (set(body) <= {"condition", "names", "values"} and isinstance(body.get("condition"), str)
-                 and isinstance(names, dict) and all(is_text(name, "#[A-Za-z0-9_]+") and isinstance(names[name], str) for name in names)
+                 and isinstance(names, dict)
+                 and all(is_text(name, "#[A-Za-z0-9_]+") and isinstance(names[name], str) for name in names)
                  and isinstance(values, dict) and all(is_text(name, ":[A-Za-z0-9_]+") for name in values))
         if not right:
             refused(refused="shape")
@@ -552,7 +563,8 @@ class Table:
             return [{"every": True}]
         text, names, values = reader.printed(tree)
         ordered = lambda found: {name: found[name] for name in in_order(found)}
-        return [{"condition": text, "names": ordered(names), "values": {name: spelled(inner) for name, inner in ordered(values).items()}}]
+        texts = {name: spelled(inner) for name, inner in ordered(values).items()}
+        return [{"condition": text, "names": ordered(names), "values": texts}]
 
 
 def item_of_values(values):
