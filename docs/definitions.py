@@ -159,16 +159,20 @@ class Reach:
     def whole(self):
         return sum(map(self.lines, list(self.blocks)))
 
+    # The files that only say again what others say.
+    def marked(self):
+        return [it.path for it in self.files.values() if self.blocks[it.path] and "Not to be read" in it.head]
+
     # The rows of the option --trusted.
     def told(self):
         paths = [path for path in sorted(self.blocks) if self.blocks[path]]
-        marked = [file.path for file in self.files.values() if file.path in paths and "Not to be read" in file.head]
+        marked = self.marked()
         whole = sum(len(block.code) for file in self.files.values() for block in file.blocks)
         for path in paths:
             yield f"{self.lines(path):5}  {path}{'  (not to be read)' if path in marked else ''}"
         yield f"{sum(map(self.lines, paths)):5}  lines of definitions in {len(paths)} files, of {whole} lines in all"
         if marked:
-            yield f"{sum(map(self.lines, marked)):5}  of these are not to be read: what each file names says the same"
+            yield f"{sum(map(self.lines, marked)):5}  of these in files that are not to be read: what they name says the same"
         yield f"{len(code_lines(self.contract)):5}  lines of the contract of serve"
         for trait, text in self.traits.items():
             yield f"{len(code_lines(text)):5}  lines of the contracts of {trait}"
@@ -177,7 +181,9 @@ class Reach:
     def sentence(self):
         paths = [path for path in self.blocks if self.blocks[path]]
         names = sum(len(block.public) for path in paths for block in self.blocks[path])
-        return f"{names:,} names in {len(paths)} files, {self.whole():,} lines of code"
+        again = sum(map(self.lines, self.marked()))
+        more = f", of which {again:,} are in files marked \"Not to be read\"" if again else ""
+        return f"{names:,} names in {len(paths)} files, {self.whole():,} lines of code{more}"
 
 
 def code_lines(text):
