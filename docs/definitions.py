@@ -24,7 +24,8 @@ outside; where it names none, the rule is this project's own. Words of the stand
 (`read` and `compact_text` of `serde_json`, `sha384` and `sha512` of `sha2`) are defined there.
 
 What a reader of the headline has to trust are the definitions that the contract of `serve`, the whole run, reaches:
-%s. They have a column of their own.
+%s.
+They have a column of their own.
 
 A file marked "Not to be read" says once more, in the steps of the code, what the files that it names say in fewer
 words; a clause or a law ties the two.
@@ -172,7 +173,7 @@ class Reach:
             yield f"{self.lines(path):5}  {path}{'  (not to be read)' if path in marked else ''}"
         yield f"{sum(map(self.lines, paths)):5}  lines of definitions in {len(paths)} files, of {whole} lines in all"
         if marked:
-            yield f"{sum(map(self.lines, marked)):5}  of these in files that are not to be read: what they name says the same"
+            yield f"{sum(map(self.lines, marked)):5}  of these in files that are not to be read, since others say the same"
         yield f"{len(code_lines(self.contract)):5}  lines of the contract of serve"
         for trait, text in self.traits.items():
             yield f"{len(code_lines(text)):5}  lines of the contracts of {trait}"
