@@ -173,7 +173,7 @@ class Reach:
             yield f"{self.lines(path):5}  {path}{'  (not to be read)' if path in marked else ''}"
         yield f"{sum(map(self.lines, paths)):5}  lines of definitions in {len(paths)} files, of {whole} lines in all"
         if marked:
-            yield f"{sum(map(self.lines, marked)):5}  of these in files that are not to be read, since others say the same"
+            yield f"{sum(map(self.lines, marked)):5}  of these in files that are not to be read"
         yield f"{len(code_lines(self.contract)):5}  lines of the contract of serve"
         for trait, text in self.traits.items():
             yield f"{len(code_lines(text)):5}  lines of the contracts of {trait}"
