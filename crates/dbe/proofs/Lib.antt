@@ -1,7 +1,8 @@
-pub mod Results
 pub mod ReadSoFar
 pub mod Halted
-pub mod Progress
+pub mod Served
 pub mod Headline
-pub mod Worlds
 pub mod Taken
+pub mod ArgumentsRead
+pub mod Begun
+pub mod Completing

@@ -6,7 +6,7 @@ use Rattle.dbe.specs.declared.status.Status.TheVariants as s
 -- the exit code of a status
 abbrev pub code_of : Status → ℕ
 code_of s.Done = 0
-code_of s.Words = 2
+code_of s.Arguments = 2
 code_of (s.Config fault) = 3
 code_of s.Read = 4
 code_of s.LineTooLong = 4

@@ -1,4 +1,7 @@
-pub mod Maps
+pub mod Arguments
+pub mod ArgumentSteps
+pub mod Worlds
+pub mod Faults
 pub mod Run
 pub mod Stops
 pub mod Turns

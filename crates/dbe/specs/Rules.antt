@@ -9,7 +9,7 @@ use Rattle.dbe_config.specs.declared.fault.ConfigFault.TheVariants as f
 use Rattle.dbe.specs.declared.status.Status.{Status}
 use Rattle.dbe.specs.declared.status.Status.TheVariants as s
 
--- told bytes spell no configuration for this reason, which is not want of memory
+-- told bytes spell no configuration for this reason, which is not that memory ran out
 pub record IsRefused (fault : ConfigFault) (told : Option (List ℕ)) : Type 0 where
   pub not_memory : fault ≢ f.Memory
   pub refused : (bytes : List ℕ) → told ≡ Some bytes → configured bytes ≡ Err fault
@@ -19,38 +19,28 @@ abbrev pub IsOfConfig : Status → Option (List ℕ) → Type 0
 IsOfConfig (s.Config fault) told = IsRefused fault told
 IsOfConfig s.Read told = Unit {0}
 IsOfConfig s.Memory told = Unit {0}
-IsOfConfig s.Done told = ⊥
-IsOfConfig s.Words told = ⊥
-IsOfConfig s.LineTooLong told = ⊥
-IsOfConfig s.ScriptTooLong told = ⊥
-IsOfConfig s.Write told = ⊥
-IsOfConfig s.Table told = ⊥
+IsOfConfig _ told = ⊥
 
 -- the statuses of reading bytes
 abbrev pub IsOfReading : Status → Type 0
 IsOfReading s.Read = Unit {0}
 IsOfReading s.Memory = Unit {0}
-IsOfReading s.Done = ⊥
-IsOfReading s.Words = ⊥
-IsOfReading (s.Config fault) = ⊥
-IsOfReading s.LineTooLong = ⊥
-IsOfReading s.ScriptTooLong = ⊥
-IsOfReading s.Write = ⊥
-IsOfReading s.Table = ⊥
+IsOfReading _ = ⊥
 
--- told bytes, or a front of them that is longer than a configuration may be
-abbrev pub IsFrontOf : Option (List ℕ) → List ℕ → Type 0
-IsFrontOf told front = (bytes : List ℕ) → told ≡ Some bytes → (bytes ≡ front) ⊎ ((1048576 < length front) × ((rest : List ℕ) × (bytes ≡ front ++ rest)))
+-- told bytes, or a prefix of them that is longer than a configuration may be
+abbrev pub IsConfigPrefix : Option (List ℕ) → List ℕ → Type 0
+IsConfigPrefix told prefix = (bytes : List ℕ) → told ≡ Some bytes → (bytes ≡ prefix) ⊎ ((1048576 < length prefix) ×
+    ((rest : List ℕ) × (bytes ≡ prefix ++ rest)))
 
--- told bytes lose a front of at most so many bytes
+-- told bytes lose a prefix of at most so many bytes
 pub record IsTaken (most : ℕ) (old new : Option (List ℕ)) : Type 0 where
-  pub front : List ℕ
-  pub gone : Consumes old new front
-  pub few : length front ≤ most
+  pub prefix : List ℕ
+  pub gone : Consumes old new prefix
+  pub few : length prefix ≤ most
 
--- no words, told bytes that spell a configuration, and a told script within the limits on its lines and its length
-pub record IsWithinRules (words : ℕ) (config script : Option (List ℕ)) : Type 0 where
-  pub no_words : words ≡ 0
+-- no arguments, told bytes that spell a configuration, and a told script within the limits on its lines and its length
+pub record IsWithinRules (arguments : ℕ) (config script : Option (List ℕ)) : Type 0 where
+  pub no_arguments : arguments ≡ 0
   pub bytes : List ℕ
   pub told : config ≡ Some bytes
   pub accepted : IsOk (configured bytes)

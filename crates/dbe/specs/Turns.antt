@@ -1,41 +1,42 @@
--- What one line does to the rows and to what is written (this project's own).
-use Rattle.std.specs.Prelude.{◌≡◌, ◌≢◌, ◌⊎◌, [], ℕ, List, Some}
-use Rattle.std.specs.declared.option.Option.{Option}
+-- What one line does to the objects of a step and to what is written (this project's own).
+use Rattle.std.specs.Prelude.{◌≡◌, ℕ, List, Option}
 use Rattle.std.specs.Io.KnownBytes.{Appends}
-use Rattle.dbe_table.specs.Rows.{Row, risen}
-use Rattle.dbe_session.specs.Reply.{Environment, State, Turn, IsTurn, reply_to}
-use Rattle.dbe.specs.Stops.{IsAfter, IsFrontOf}
+use Rattle.dbe_io.specs.Prefix.{AppendsPrefix}
+use Rattle.dbe_session.specs.Reply.{Environment, State}
+use Rattle.dbe_session.specs.Steps.{Told, Answered, Unanswered}
 use Rattle.dbe.specs.declared.status.Status.{Status}
 use Rattle.dbe.specs.declared.status.Status.TheVariants as s
 
--- a line got its reply
-pub record Turned (e : Environment) (state : State) (line : List ℕ) (rows : Option (List Row)) (given_before given_after : ℕ) (old new : Option (List ℕ)) : Type 0 where
-  pub turn : Turn
-  pub is_line : turn.line ≡ line
-  pub is_turn : IsTurn e turn
-  pub are_rows : rows ≡ Some (reply_to e state turn).state.rows
-  pub given : given_after ≡ risen given_before (reply_to e state turn).given
-  pub written : Appends old new (reply_to e state turn).text
+-- a line got its reply, and it was written
+pub record Turned (e : Environment) (state : State) (line : List ℕ) (old new : Told) (written written' : Option
+    (List ℕ)) : Type 0 where
+  pub text : List ℕ
+  pub answered : Answered e state line text old new
+  pub appended : Appends written written' text
 
--- a line got no reply, or a front of it
-pub record TurnedDown (e : Environment) (status : Status) (state : State) (line : List ℕ) (rows : Option (List Row)) (old new : Option (List ℕ)) : Type 0 where
-  pub told : State  -- the state after it
-  pub are_rows : rows ≡ Some told.rows
-  pub state_after : (told ≡ state) ⊎ IsAfter e state line told
-  pub same_state : status ≢ s.Write → told ≡ state
-  pub piece : List ℕ
-  pub is_piece : (piece ≡ []) ⊎ IsFrontOf e state line piece
-  pub only_write : status ≢ s.Write → piece ≡ []
-  pub written : Appends old new piece
+-- a line got its reply, and a prefix of it was written
+pub record TurnedInPart (e : Environment) (state : State) (line : List ℕ) (old new : Told) (written written' : Option
+    (List ℕ)) : Type 0 where
+  pub text : List ℕ
+  pub answered : Answered e state line text old new
+  pub appended : AppendsPrefix written written' text
+
+-- a line got no reply, and nothing was written
+pub record TurnedDown (e : Environment) (state : State) (line : List ℕ) (old new : Told) (written written' : Option
+    (List ℕ)) : Type 0 where
+  pub unanswered : Unanswered e state line old new
+  pub same : written' ≡ written
+
+-- why a line's reply was not written, or not whole
+abbrev pub TurnedFor : Status → Environment → State → List ℕ → Told → Told → Option (List ℕ) → Option (List ℕ) → Type 0
+TurnedFor s.Write e state line old new written written' = TurnedInPart e state line old new written written'
+TurnedFor s.Table e state line old new written written' = TurnedDown e state line old new written written'
+TurnedFor s.Memory e state line old new written written' = TurnedDown e state line old new written written'
+TurnedFor _ e state line old new written written' = ⊥
 
 -- the statuses that come where a line gets no whole reply
 abbrev pub IsOfReply : Status → Type 0
 IsOfReply s.Table = Unit {0}
 IsOfReply s.Write = Unit {0}
 IsOfReply s.Memory = Unit {0}
-IsOfReply s.Done = ⊥
-IsOfReply s.Words = ⊥
-IsOfReply (s.Config f) = ⊥
-IsOfReply s.Read = ⊥
-IsOfReply s.LineTooLong = ⊥
-IsOfReply s.ScriptTooLong = ⊥
+IsOfReply _ = ⊥

@@ -9,8 +9,8 @@ use std::fmt;
 pub enum Status {
     /// The script was read to its end, and all replies are written.
     Done,
-    /// The words are none of those that the program takes.
-    Words,
+    /// The arguments are none of those that the program takes.
+    Arguments,
     /// The configuration is refused.
     Config(ConfigFault),
     /// The configuration or the script could not be read.
@@ -34,7 +34,7 @@ impl Status {
     {
         match self {
             Status::Done => 0,
-            Status::Words => 2,
+            Status::Arguments => 2,
             Status::Config(_) => 3,
             Status::Read | Status::LineTooLong | Status::ScriptTooLong => 4,
             Status::Write => 5,
@@ -48,7 +48,7 @@ impl fmt::Display for Status {
     fn fmt<W: fmt::Write>(&self, f: &mut fmt::Formatter<W>) -> fmt::Result {
         match self {
             Status::Done => f.write_str("done"),
-            Status::Words => f.write_str("words"),
+            Status::Arguments => f.write_str("words"),
             Status::Config(fault) => write!(f, "config {fault:?}"),
             Status::Read => f.write_str("read"),
             Status::LineTooLong => f.write_str("line too long"),

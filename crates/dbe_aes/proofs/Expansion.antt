@@ -6,15 +6,19 @@ use Rattle.std.specs.Prelude.{set}
 use Rattle.dbe_aes.specs.Words.{word_at, addend, words_of}
 
 -- the first eight words are the key's
-pub words_none : (key words : List ℕ) → length words ≡ 60 → ((k : ℕ) → k < 8 → get_or words k 0 ≡ word_at key (4 * k)) → take 8 words ≡ words_of key 0
+pub words_none : (key words : List ℕ) → length words ≡ 60 → ((k : ℕ) → k < 8 → get_or words k 0 ≡ word_at key (4 * k))
+    → take 8 words ≡ words_of key 0
 unfolding words_of
-words_none key words long h = fill_by_all (λ k. word_at key (4 * k)) (take 8 words) 8 0 (length-take-le 8 words (omega arith)) (λ k lt. get_or-take 8 words k 0 lt ∙ h k lt)
+words_none key words long h = fill_by_all (λ k. word_at key (4 * k)) (take 8 words) 8 0
+    (length-take-le 8 words (omega arith)) (λ k lt. get_or-take 8 words k 0 lt ∙ h k lt)
 
 addend-take : (w : List ℕ) (i : ℕ) → 0 < i → addend (take i w) i ≡ addend w i
-addend-take w i pos = let e : get_or (take i w) (i - 1) 0 ≡ get_or w (i - 1) 0 = get_or-take i w (i - 1) 0 (omega arith) in rw e refl
+addend-take w i pos = let e : get_or (take i w) (i - 1) 0 ≡ get_or w (i - 1) 0 =
+    get_or-take i w (i - 1) 0 (omega arith) in rw e refl
 
 -- one word more
-pub words_more : (key words : List ℕ) (i n v : ℕ) → i ≡ n + 8 → i < length words → take i words ≡ words_of key n → v ≡ bit_xor (get_or words n 0) (addend words i) → take (i + 1) (set words i v) ≡ words_of key (suc n)
+pub words_more : (key words : List ℕ) (i n v : ℕ) → i ≡ n + 8 → i < length words → take i words ≡ words_of key n →
+    v ≡ bit_xor (get_or words n 0) (addend words i) → take (i + 1) (set words i v) ≡ words_of key (suc n)
 unfolding words_of
 words_more key words i n v at lt before is =
     let first : get_or (words_of key n) n 0 ≡ get_or words n 0 = rw before at (get_or-take i words n 0 (omega arith)) in

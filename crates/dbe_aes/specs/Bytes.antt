@@ -27,12 +27,14 @@ inverse x = inverse_from 256 0 x
 
 -- bit i of the affine map of b, whose constant is 0x63 (5.1.1)
 abbrev affine_bit : ℕ → ℕ → ℕ
-affine_bit b i = (bit_at b i + bit_at b ((i + 4) % 8) + bit_at b ((i + 5) % 8) + bit_at b ((i + 6) % 8) + bit_at b ((i + 7) % 8) + bit_at 0x63 i) % 2
+affine_bit b i = (bit_at b i + bit_at b ((i + 4) % 8) + bit_at b ((i + 5) % 8) + bit_at b ((i + 6) % 8) + bit_at b
+    ((i + 7) % 8) + bit_at 0x63 i) % 2
 
 -- the affine map (5.1.1)
 unfoldable pub affine : ℕ → ℕ
-affine b = affine_bit b 0 + 2 * affine_bit b 1 + 4 * affine_bit b 2 + 8 * affine_bit b 3 + 16 * affine_bit b 4 + 32 * affine_bit b 5 + 64 * affine_bit b 6 + 128 * affine_bit b 7
+affine b = affine_bit b 0 + 2 * affine_bit b 1 + 4 * affine_bit b 2 + 8 * affine_bit b 3 + 16 * affine_bit b 4 + 32 *
+    affine_bit b 5 + 64 * affine_bit b 6 + 128 * affine_bit b 7
 
 -- SBox: the inverse, and then the affine map (5.1.1)
-unfoldable pub substituted : ℕ → ℕ
-substituted x = affine (inverse x)
+unfoldable pub sbox : ℕ → ℕ
+sbox x = affine (inverse x)

@@ -1,12 +1,13 @@
 -- A state as its four columns, each the word of its four bytes: how the tables see it.
 use Rattle.std.specs.Prelude.{ℕ, List, [], ◌∷◌, ◌++◌, bit_xor, slice_index}
-use Rattle.dbe_aes.specs.Bytes.{substituted}
+use Rattle.dbe_aes.specs.Bytes.{sbox}
 use Rattle.dbe_aes.specs.Words.{byte_of, word_bytes}
 use Rattle.dbe_aes.specs.States.{mixed}
 
 -- the state of four words
 unfoldable pub columns : List ℕ → List ℕ
-columns s = word_bytes (slice_index s 0) ++ word_bytes (slice_index s 1) ++ word_bytes (slice_index s 2) ++ word_bytes (slice_index s 3)
+columns s = word_bytes (slice_index s 0) ++ word_bytes (slice_index s 1) ++ word_bytes (slice_index s 2) ++ word_bytes
+    (slice_index s 3)
 
 -- four bytes and four others, added
 abbrev pub added_bytes : List ℕ → List ℕ → List ℕ
@@ -18,9 +19,10 @@ added_bytes xs ys =
 -- are the columns that its rows come from
 unfoldable pub round_column : ℕ → ℕ → ℕ → ℕ → ℕ → List ℕ
 round_column a b c d k =
-    added_bytes (mixed (substituted (byte_of a 0)) (substituted (byte_of b 1)) (substituted (byte_of c 2)) (substituted (byte_of d 3))) (word_bytes k)
+    added_bytes (mixed (sbox (byte_of a 0)) (sbox (byte_of b 1)) (sbox (byte_of c 2)) (sbox (byte_of d 3)))
+    (word_bytes k)
 
 -- the same in the last round, without MixColumns
 unfoldable pub last_column : ℕ → ℕ → ℕ → ℕ → ℕ → List ℕ
 last_column a b c d k =
-    added_bytes (substituted (byte_of a 0) ∷ substituted (byte_of b 1) ∷ substituted (byte_of c 2) ∷ substituted (byte_of d 3) ∷ []) (word_bytes k)
+    added_bytes (sbox (byte_of a 0) ∷ sbox (byte_of b 1) ∷ sbox (byte_of c 2) ∷ sbox (byte_of d 3) ∷ []) (word_bytes k)

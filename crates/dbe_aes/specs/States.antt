@@ -2,7 +2,7 @@
 -- state is the list of its bytes, column after column, so a block and its state are the same list.
 use Rattle.std.specs.Prelude.{ℕ, ◌+◌, ◌*◌, ◌%◌, List, [], ◌∷◌, bit_xor, slice_index}
 use Rattle.std.specs.Int.{w32, to_be_bytes}
-use Rattle.dbe_aes.specs.Bytes.{product, substituted}
+use Rattle.dbe_aes.specs.Bytes.{product, sbox}
 
 -- s[r, c]: the byte in row r and column c (3.4)
 abbrev pub cell : List ℕ → ℕ → ℕ → ℕ
@@ -16,7 +16,7 @@ state_of f =
 
 -- SubBytes (5.1.1)
 unfoldable pub sub_bytes : List ℕ → List ℕ
-sub_bytes s = state_of (λ r c. substituted (cell s r c))
+sub_bytes s = state_of (λ r c. sbox (cell s r c))
 
 -- ShiftRows: row r moves r places to the left (5.1.2)
 unfoldable pub shift_rows : List ℕ → List ℕ
@@ -36,4 +36,5 @@ mix_columns s = state_of (λ r c. slice_index (mixed (cell s 0 c) (cell s 1 c) (
 
 -- AddRoundKey of round n, with the words w of the key schedule (5.1.4)
 unfoldable pub add_round_key : List ℕ → ℕ → List ℕ → List ℕ
-add_round_key w n s = state_of (λ r c. bit_xor (cell s r c) (slice_index (to_be_bytes w32 (slice_index w (4 * n + c))) r))
+add_round_key w n s =
+    state_of (λ r c. bit_xor (cell s r c) (slice_index (to_be_bytes w32 (slice_index w (4 * n + c))) r))

@@ -1,8 +1,9 @@
 -- The key expansion of a key of 32 bytes (FIPS 197, 5.2, with Nk = 8). A word is the number of its
 -- four bytes, the first of them the highest.
-use Rattle.std.specs.Prelude.{ℕ, zero, suc, ◌+◌, ◌-◌, ◌/◌, ◌%◌, ◌==◌, List, [], ◌∷◌, ◌++◌, bit_xor, slice_index, if◌then◌else◌}
+use Rattle.std.specs.Prelude.{ℕ, zero, suc, ◌+◌, ◌-◌, ◌/◌, ◌%◌, ◌==◌, List, [], ◌∷◌, ◌++◌, bit_xor, slice_index}
+use Rattle.std.specs.Prelude.{if◌then◌else◌}
 use Rattle.std.specs.Int.{w32, from_be_bytes, to_be_bytes}
-use Rattle.dbe_aes.specs.Bytes.{substituted}
+use Rattle.dbe_aes.specs.Bytes.{sbox}
 
 -- the word of the four bytes from byte i on
 abbrev pub word_at : List ℕ → ℕ → ℕ
@@ -24,7 +25,7 @@ rot_word a = from_be_bytes w32 (byte_of a 1 ∷ byte_of a 2 ∷ byte_of a 3 ∷ 
 -- SubWord (5.2)
 unfoldable pub sub_word : ℕ → ℕ
 sub_word a = from_be_bytes w32
-    (substituted (byte_of a 0) ∷ substituted (byte_of a 1) ∷ substituted (byte_of a 2) ∷ substituted (byte_of a 3) ∷ [])
+    (sbox (byte_of a 0) ∷ sbox (byte_of a 1) ∷ sbox (byte_of a 2) ∷ sbox (byte_of a 3) ∷ [])
 
 -- Rcon[j], for j from 1 to 10 (5.2, table 5)
 abbrev pub round_constant : ℕ → ℕ

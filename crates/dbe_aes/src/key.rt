@@ -4,7 +4,7 @@ ghost use Rattle.std.specs.Prelude.{◌≡◌, ℕ, ◌+◌, ◌*◌, ◌%◌, �
 ghost use Rattle.dbe_aes.specs.Words.{key_schedule};
 ghost use Rattle.dbe_aes.specs.Cipher.{cipher};
 ghost use Rattle.dbe_aes.specs.Columns.{columns};
-ghost use Rattle.dbe_aes.specs.Counters.{counter_mode};
+ghost use Rattle.dbe_aes.specs.Counters.{gctr};
 
 use crate::schedule::key_schedule;
 use crate::tables::{cipher_columns, columns_of};
@@ -56,7 +56,7 @@ impl Key256 {
     /// one the last 4 bytes are greater by one, modulo 2^32 (SP 800-38D, 6.5). To do it again gives
     /// the bytes back. The slice may have any length.
     pub fn ctr(&self, first: &[u8; 16], bytes: &mut [u8])
-        ensures { bytes.new ≡ counter_mode self.now first.now bytes.old }
+        ensures { bytes.new ≡ gctr self.now first.now bytes.old }
     {
         let blocks = bytes.len() / 16;
         let [a, b, c, start] = columns_of(first);

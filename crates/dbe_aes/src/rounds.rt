@@ -5,7 +5,7 @@ ghost use Rattle.dbe_aes.specs.Bytes.{product, times_x};
 ghost use Rattle.dbe_aes.specs.States.{add_round_key, mix_columns, mixed, shift_rows, sub_bytes};
 ghost use Rattle.dbe_aes.specs.Cipher.{cipher_by_words};
 
-use crate::substitution::substitute;
+use crate::substitution::sbox;
 
 // The byte times x.
 fn times_x(a: u8) -> u8
@@ -33,7 +33,7 @@ fn sub_bytes(s: &[u8; 16]) -> [u8; 16]
 {
     let mut new = [0; 16];
     for i in 0..16 {
-        new[i] = substitute(s[i]);
+        new[i] = sbox(s[i]);
     }
     new
 }

@@ -3,7 +3,7 @@
 ghost use Rattle.std.specs.Prelude.{◌≡◌, ◌+◌, ◌-◌, ◌*◌, ◌<◌, ◌≤◌, length};
 ghost use Rattle.dbe_aes.specs.Words.{addend, key_schedule, rot_word, sub_word, word_at, words_of};
 
-use crate::substitution::substitute;
+use crate::substitution::sbox;
 
 // The bytes of a key that are its word i.
 fn key_word(key: &[u8; 32], i: usize) -> u32
@@ -24,7 +24,7 @@ fn sub_word(word: u32) -> u32
     ensures { result ≡ sub_word word }
 {
     let [a, b, c, d] = word.to_be_bytes();
-    u32::from_be_bytes([substitute(a), substitute(b), substitute(c), substitute(d)])
+    u32::from_be_bytes([sbox(a), sbox(b), sbox(c), sbox(d)])
 }
 
 // The round constants, Rcon[1] to Rcon[7].

@@ -1,7 +1,7 @@
 //! The substitution of bytes.
 
 ghost use Rattle.std.specs.Prelude.{◌≡◌};
-ghost use Rattle.dbe_aes.specs.Bytes.{substituted};
+ghost use Rattle.dbe_aes.specs.Bytes.{sbox};
 
 // SBox, entry by entry.
 #[rattlefmt::skip]
@@ -25,8 +25,8 @@ pub const SUBSTITUTION: [u8; 256] = [
 ];
 
 /// The byte's substitution (FIPS 197, 5.1.1).
-pub fn substitute(x: u8) -> u8
-    ensures { result ≡ substituted x }
+pub fn sbox(x: u8) -> u8
+    ensures { result ≡ sbox x }
 {
     SUBSTITUTION[x as usize]
 }

@@ -1,4 +1,4 @@
-//! The rounds by four tables, each entry of which is a substituted byte's part of a mixed column.
+//! The rounds by four tables, each entry of which is a sbox byte's part of a mixed column.
 
 ghost use Rattle.std.specs.Prelude.{◌≡◌, ◌<◌, [], ◌∷◌};
 ghost use Rattle.dbe_aes.specs.Columns.{columns, last_column, round_column};
@@ -6,7 +6,7 @@ ghost use Rattle.dbe_aes.specs.Words.{word_bytes};
 ghost use Rattle.dbe_aes.specs.States.{add_round_key, mix_columns, shift_rows, sub_bytes};
 ghost use Rattle.dbe_aes.specs.Cipher.{cipher_by_words};
 
-use crate::substitution::substitute;
+use crate::substitution::sbox;
 use std::simd::u32x4;
 
 // The part of a byte in the first row, for each byte, and then those in the second, third and fourth.
@@ -160,10 +160,10 @@ fn last_column(a: u32, b: u32, c: u32, d: u32, k: u32) -> u32
     ensures { word_bytes result ≡ last_column a b c d k }
 {
     u32::from_be_bytes([
-        substitute((a >> 24) as u8),
-        substitute(((b >> 16) & 0xff) as u8),
-        substitute(((c >> 8) & 0xff) as u8),
-        substitute((d & 0xff) as u8),
+        sbox((a >> 24) as u8),
+        sbox(((b >> 16) & 0xff) as u8),
+        sbox(((c >> 8) & 0xff) as u8),
+        sbox((d & 0xff) as u8),
     ]) ^ k
 }
 

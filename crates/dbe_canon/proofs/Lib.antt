@@ -3,6 +3,7 @@ pub mod Lengths
 pub mod Fields
 pub mod Orders
 pub mod ReadLeaves
+pub mod NumberTexts
 pub mod Loops
 pub mod Many
 pub mod SetBytes

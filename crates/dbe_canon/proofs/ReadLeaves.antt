@@ -1,5 +1,6 @@
 -- Texts, numbers and the elements of sets.
-use Rattle.std.proofs.Common.{◌≡◌, ℕ, ◌<◌, Bool, true, false, cond, List, Some, None, Result, Ok, Err, refl, sym, ap, subst, ◌∙◌}
+use Rattle.std.proofs.Common.{◌≡◌, ℕ, ◌<◌, Bool, true, false, cond, List, Some, None, Result, Ok, Err, refl, sym, ap}
+use Rattle.std.proofs.Common.{subst, ◌∙◌}
 use Rattle.std.specs.Str.{IsUtf8, is_utf8, bytes_eq}
 use Rattle.std.proofs.lemmas.Str.{is_utf8-from_IsUtf8, IsUtf8-from_is_utf8, IsUtf8-from_ascii}
 use Rattle.std.proofs.lemmas.Slice.Eq.{bytes_eq-Decides}
@@ -11,7 +12,8 @@ use Rattle.dbe_num.specs.declared.number_fault.NumberFault.{NumberFault}
 use Rattle.dbe_num.proofs.Again.{read_again}
 use Rattle.dbe_num.proofs.Read.{read_is_normal}
 use Rattle.dbe_num.proofs.Lengths.{normal_text_ascii}
-use Rattle.dbe_values.specs.Lawful.{AreBytes, IsNumberText}
+use Rattle.dbe_values.specs.Sets.{IsNumberText}
+use Rattle.dbe_values.specs.Lawful.{AreBytes}
 use Rattle.dbe_canon.specs.Reading.{normal_of, number_in, text_in, number_text_in, binary_in}
 use Rattle.dbe_canon.proofs.Fields.{IsBytes, bind_some, test_true, some_is}
 
@@ -39,7 +41,11 @@ text_again x h = rw (is_utf8-from_IsUtf8 x h) refl
 pub binary_read : (bytes x : List ℕ) → IsBytes bytes → binary_in bytes ≡ Some x → IsRead AreBytes bytes x
 binary_read bytes x fits e =
     let same = some_is bytes x e in
-    record { same = same; is = subst (λ (y : List ℕ). AreBytes y) same (All-from_get_or (λ b. b < 256) bytes 0 (λ i lt. fits i)) }
+    record {
+      same = same;
+      is = subst (λ (y : List ℕ). AreBytes y) same (All-from_get_or (λ b. b < 256) bytes 0
+          (λ i lt. fits i));
+    }
 
 pub binary_again : (x : List ℕ) → AreBytes x → binary_in x ≡ Some x
 binary_again x h = refl
@@ -49,10 +55,15 @@ pub record IsNumberRead (text : List ℕ) (d : Decimal) : Type 0 where
   pub normal : IsNormal d
   pub written : text ≡ normal_text d
 
-number_of_read : (text : List ℕ) (r : Result Decimal NumberFault) (d : Decimal) → number_of text ≡ r → normal_of text r ≡ Some d → IsNumberRead text d
+number_of_read : (text : List ℕ) (r : Result Decimal NumberFault) (d : Decimal) → number_of text ≡ r →
+    normal_of text r ≡ Some d → IsNumberRead text d
 number_of_read text (Ok c) d is e =
     let t = test_true (bytes_eq (normal_text c) text) c d e in
-    subst (λ (x : Decimal). IsNumberRead text x) t.1 (record { normal = read_is_normal text c is; written = sym (same_bytes (normal_text c) text t.0) })
+    subst (λ (x : Decimal). IsNumberRead text x) t.1 (record {
+      normal = read_is_normal text c is;
+      written =
+          sym (same_bytes (normal_text c) text t.0);
+    })
 number_of_read text (Err f) d is e = absurd cc
 
 pub number_read : (text : List ℕ) (d : Decimal) → number_in text ≡ Some d → IsNumberRead text d
@@ -66,16 +77,27 @@ number_read text d e = at_test (is_utf8 text) e
 pub number_again : (d : Decimal) → IsNormal d → number_in (normal_text d) ≡ Some d
 unfolding number_in
 number_again d h =
-    let text : is_utf8 (normal_text d) ≡ true = is_utf8-from_IsUtf8 (normal_text d) (IsUtf8-from_ascii (normal_text d) (normal_text_ascii d h.few)) in
+    let text : is_utf8 (normal_text d) ≡ true =
+    is_utf8-from_IsUtf8 (normal_text d) (IsUtf8-from_ascii (normal_text d) (normal_text_ascii d h.few)) in
     rw (text, read_again d h, bytes_same (normal_text d)) refl
 
-pub number_text_read : (bytes x : List ℕ) → IsBytes bytes → number_text_in bytes ≡ Some x → IsRead IsNumberText bytes x
+pub number_text_found : (bytes x : List ℕ) → number_text_in bytes ≡ Some x → IsRead IsNumberText bytes x
 unfolding number_text_in
-number_text_read bytes x fits e =
+number_text_found bytes x e =
     let b = bind_some (number_in bytes) (λ d. Some bytes) x e in
     let n = number_read bytes b.0 b.1 in
     let same = some_is bytes x b.2 in
-    record { same = same; is = subst (λ (y : List ℕ). IsNumberText y) same (record { number = b.0; normal = n.normal; written = n.written }) }
+    record {
+      same = same;
+      is = subst (λ (y : List ℕ). IsNumberText y) same (record {
+        number = b.0;
+        normal = n.normal;
+        written = n.written;
+      });
+    }
+
+pub number_text_read : (bytes x : List ℕ) → IsBytes bytes → number_text_in bytes ≡ Some x → IsRead IsNumberText bytes x
+number_text_read bytes x fits e = number_text_found bytes x e
 
 pub number_text_again : (x : List ℕ) → IsNumberText x → number_text_in x ≡ Some x
 unfolding number_text_in
@@ -100,7 +122,8 @@ pub number_none : (bytes : List ℕ) → (IsUtf8 bytes → ⊥) → number_in by
 unfolding number_in
 number_none bytes h = rw (not_utf8 bytes (is_utf8 bytes) refl h) refl
 
-pub number_some : (bytes text written : List ℕ) (d : Decimal) → IsUtf8 bytes → text ≡ bytes → Ok d ≡ number_of text → written ≡ normal_text d → bytes_eq written bytes ≡ true → number_in bytes ≡ Some d
+pub number_some : (bytes text written : List ℕ) (d : Decimal) → IsUtf8 bytes → text ≡ bytes → Ok d ≡ number_of text →
+    written ≡ normal_text d → bytes_eq written bytes ≡ true → number_in bytes ≡ Some d
 unfolding number_in
 number_some bytes text written d h e read f same =
     let utf8 : is_utf8 bytes ≡ true = is_utf8-from_IsUtf8 bytes h in
@@ -108,7 +131,8 @@ number_some bytes text written d h e read f same =
     let tested : bytes_eq (normal_text d) bytes ≡ true = ap (λ (y : List ℕ). bytes_eq y bytes) (sym f) ∙ same in
     rw (utf8, number, tested) refl
 
-pub number_text_some : (bytes text : List ℕ) (d : Decimal) → number_in bytes ≡ Some d → text ≡ normal_text d → number_text_in bytes ≡ Some text
+pub number_text_some : (bytes text : List ℕ) (d : Decimal) → number_in bytes ≡ Some d → text ≡ normal_text d →
+    number_text_in bytes ≡ Some text
 unfolding number_text_in
 number_text_some bytes text d read e =
     let same : bytes ≡ text = (number_read bytes d read).written ∙ sym e in

@@ -98,7 +98,8 @@ abbrev mutual
 
   pub EntriesHaveShortParts : Entries → Type 0
   EntriesHaveShortParts v.no_entries = Unit {0}
-  EntriesHaveShortParts (v.entry name x es) = IsShort name × IsShort (canon_of x) × HasShortParts x × EntriesHaveShortParts es
+  EntriesHaveShortParts (v.entry name x es) = IsShort name × IsShort (canon_of x) × HasShortParts x ×
+      EntriesHaveShortParts es
 
 -- The value with this type and these canonical bytes: sets, names of maps and numbers are in their one order and
 -- form, texts are UTF-8, and lists and maps nest to at most `left` levels.

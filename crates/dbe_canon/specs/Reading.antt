@@ -1,5 +1,6 @@
 -- Canonical bytes read from front to back. The clauses `found` and `none` of `read` tie this to `Canon`.
-use Rattle.std.specs.Prelude.{◌≡◌, ℕ, zero, suc, ◌==◌, ◌&&◌, Bool, true, false, List, [], ◌∷◌, length, take, drop, map, nat_lt, Option, Some, None, Result, Ok, Err, if◌then◌else◌}
+use Rattle.std.specs.Prelude.{◌≡◌, ℕ, zero, suc, ◌==◌, ◌&&◌, Bool, true, false, List, [], ◌∷◌, length, take, drop}
+use Rattle.std.specs.Prelude.{map, nat_lt, Option, Some, None, Result, Ok, Err, if◌then◌else◌}
 use Rattle.std.specs.Int.{w64, from_be_bytes}
 use Rattle.std.specs.Str.{bytes_eq, is_utf8}
 use Rattle.std.specs.Ordering.{nat_cmp, is_lt}
@@ -142,7 +143,8 @@ map_of value bytes = count_at bytes >>= λ n. many_at (entry_at value) n.0 n.1 >
 -- the value of an id and bytes; left: how many levels of lists and maps may still nest
 unfoldable pub value_in : ℕ → List ℕ → List ℕ → Option Val
 value_in zero id bytes = kind_in (kind_of id) (λ _. None) (λ _. None) bytes
-value_in (suc left) id bytes = kind_in (kind_of id) (list_of (λ i b. value_in left i b)) (map_of (λ i b. value_in left i b)) bytes
+value_in (suc left) id bytes = kind_in (kind_of id) (list_of (λ i b. value_in left i b))
+    (map_of (λ i b. value_in left i b)) bytes
 
 -- a list and a map, where there is a level left for them
 unfoldable pub list_in : ℕ → List ℕ → Option Val

@@ -19,6 +19,3 @@ pub use length::canon_len;
 pub use paths::{name_order, path, put_path};
 pub use reading::read;
 pub use writing::{canon, put_canon, set_length};
-
-#[cfg(test)]
-mod tests;

@@ -1,5 +1,6 @@
 -- The names and values of a condition are the operands among its tokens, in their order.
-use Rattle.std.proofs.Common.{◌≡◌, Bool, true, false, List, [], ◌∷◌, ◌++◌, map, refl, sym, ap, ◌∙◌, append_assoc, append-nil}
+use Rattle.std.proofs.Common.{◌≡◌, Bool, true, false, List, [], ◌∷◌, ◌++◌, map, refl, sym, ap, ◌∙◌, append_assoc}
+use Rattle.std.proofs.Common.{append-nil}
 use Rattle.std.specs.List.{flat_map}
 use Rattle.std.proofs.lemmas.Grind.{flat_map-append}
 use Rattle.std.proofs.lemmas.List.{map-append}
@@ -7,8 +8,10 @@ use Rattle.dbe_tokens.specs.declared.token.Token.{Token}
 use Rattle.dbe_tokens.specs.declared.token.Token.TheVariants as t
 use Rattle.dbe_tokens.specs.declared.token.Operand.{Operand as TokenOperand}
 use Rattle.dbe_grammar.specs.Grammar.{comma_text}
-use Rattle.dbe_grammar.specs.Printed.{printed, and_printed, more_ands, or_printed, more_ors, in_parentheses, is_chain, is_or, list_printed}
-use Rattle.dbe_cond.specs.Condition.{Condition, Conditions, compare, between, within, begins, exists, lacks, not, and, or, none, some}
+use Rattle.dbe_grammar.specs.Printed.{printed, and_printed, more_ands, or_printed, more_ors, in_parentheses, is_chain}
+use Rattle.dbe_grammar.specs.Printed.{is_or, list_printed}
+use Rattle.dbe_cond.specs.Condition.{Condition, Conditions, compare, between, within, begins, exists, lacks, not, and}
+use Rattle.dbe_cond.specs.Condition.{or, none, some}
 use Rattle.dbe_cond.specs.Names.{operand_names, names_of, names_of_all}
 use Rattle.dbe_cond.specs.Values.{operand_values, values_of, values_of_all}
 use Rattle.dbe_cond.specs.Printed.{operand_shape, shape_of, all_shapes}
@@ -53,7 +56,8 @@ mutual
   names_of_all-leaves : (cs : Conditions) → names_of_all cs ≡ flat_map operand_names (all_leaves cs)
   names_of_all-leaves none = refl
   names_of_all-leaves (some c cs) =
-      ap (λ x. x ++ names_of_all cs) (names_of-leaves c) ∙ ap (λ x. flat_map operand_names (leaves_of c) ++ x) (names_of_all-leaves cs) ∙ sym (flat_map-append operand_names (leaves_of c) (all_leaves cs))
+      ap (λ x. x ++ names_of_all cs) (names_of-leaves c) ∙ ap (λ x. flat_map operand_names (leaves_of c) ++ x)
+      (names_of_all-leaves cs) ∙ sym (flat_map-append operand_names (leaves_of c) (all_leaves cs))
 
 mutual
   pub values_of-leaves : (c : Condition) → values_of c ≡ flat_map operand_values (leaves_of c)
@@ -70,7 +74,8 @@ mutual
   values_of_all-leaves : (cs : Conditions) → values_of_all cs ≡ flat_map operand_values (all_leaves cs)
   values_of_all-leaves none = refl
   values_of_all-leaves (some c cs) =
-      ap (λ x. x ++ values_of_all cs) (values_of-leaves c) ∙ ap (λ x. flat_map operand_values (leaves_of c) ++ x) (values_of_all-leaves cs) ∙ sym (flat_map-append operand_values (leaves_of c) (all_leaves cs))
+      ap (λ x. x ++ values_of_all cs) (values_of-leaves c) ∙ ap (λ x. flat_map operand_values (leaves_of c) ++ x)
+      (values_of_all-leaves cs) ∙ sym (flat_map-append operand_values (leaves_of c) (all_leaves cs))
 
 -- the operands among tokens
 abbrev pub operands : List Token → List TokenOperand
@@ -78,51 +83,73 @@ operands [] = []
 operands (t.Operand a ∷ tokens) = a ∷ operands tokens
 operands (token ∷ tokens) = operands tokens
 
-operands-commas : (list : List TokenOperand) (others : List Token) → operands (comma_text list others) ≡ list ++ operands others
+operands-commas : (list : List TokenOperand) (others : List Token) →
+    operands (comma_text list others) ≡ list ++ operands others
 operands-commas [] others = refl
 operands-commas (a ∷ list) others = ap (λ x. a ∷ x) (operands-commas list others)
 
-operands-list : (list : List TokenOperand) (others : List Token) → operands (list_printed list others) ≡ list ++ operands others
+operands-list : (list : List TokenOperand) (others : List Token) →
+    operands (list_printed list others) ≡ list ++ operands others
 operands-list [] others = refl
 operands-list (a ∷ list) others = ap (λ x. a ∷ x) (operands-commas list others)
 
 -- one part and the parts behind it
-joined : (leaves more : List Operand) (others x y : List TokenOperand) → x ≡ map operand_shape leaves ++ y → y ≡ map operand_shape more ++ others → x ≡ map operand_shape (leaves ++ more) ++ others
+joined : (leaves more : List Operand) (others x y : List TokenOperand) → x ≡ map operand_shape leaves ++ y →
+    y ≡ map operand_shape more ++ others → x ≡ map operand_shape (leaves ++ more) ++ others
 joined leaves more others x y p q =
-    p ∙ ap (λ z. map operand_shape leaves ++ z) q ∙ sym (append_assoc (map operand_shape leaves) (map operand_shape more) others) ∙ ap (λ z. z ++ others) (sym (map-append operand_shape leaves more))
+    p ∙ ap (λ z. map operand_shape leaves ++ z) q ∙
+    sym (append_assoc (map operand_shape leaves) (map operand_shape more) others) ∙
+    ap (λ z. z ++ others) (sym (map-append operand_shape leaves more))
 
-operands-parentheses : (b : Bool) (text : List Token → List Token) (leaves : List Operand) (others : List Token) → ((u : List Token) → operands (text u) ≡ map operand_shape leaves ++ operands u) → operands (in_parentheses b text others) ≡ map operand_shape leaves ++ operands others
+operands-parentheses : (b : Bool) (text : List Token → List Token) (leaves : List Operand) (others : List Token) →
+    ((u : List Token) → operands (text u) ≡ map operand_shape leaves ++ operands u) →
+    operands (in_parentheses b text others) ≡ map operand_shape leaves ++ operands others
 operands-parentheses true text leaves others h = h (t.Close ∷ others)
 operands-parentheses false text leaves others h = h others
 
 mutual
-  pub operands-printed : (c : Condition) (others : List Token) → operands (printed (shape_of c) others) ≡ map operand_shape (leaves_of c) ++ operands others
+  pub operands-printed : (c : Condition) (others : List Token) →
+      operands (printed (shape_of c) others) ≡ map operand_shape (leaves_of c) ++ operands others
   operands-printed (compare left op right) others = refl
   operands-printed (between value low high) others = refl
-  operands-printed (within value list) others = ap (λ x. operand_shape value ∷ x) (operands-list (map operand_shape list) (t.Close ∷ others))
+  operands-printed (within value list) others =
+      ap (λ x. operand_shape value ∷ x) (operands-list (map operand_shape list) (t.Close ∷ others))
   operands-printed (begins name front) others = refl
   operands-printed (exists name) others = refl
   operands-printed (lacks name) others = refl
-  operands-printed (not c) others = operands-parentheses (is_chain (shape_of c)) (printed (shape_of c)) (leaves_of c) others (operands-printed c)
+  operands-printed (not c) others = operands-parentheses (is_chain (shape_of c)) (printed (shape_of c)) (leaves_of c)
+      others (operands-printed c)
   operands-printed (and cs) others = operands-ands cs others
   operands-printed (or cs) others = operands-ors cs others
 
-  operands-ands : (cs : Conditions) (others : List Token) → operands (and_printed (all_shapes cs) others) ≡ map operand_shape (all_leaves cs) ++ operands others
+  operands-ands : (cs : Conditions) (others : List Token) → operands (and_printed (all_shapes cs) others) ≡ map
+      operand_shape (all_leaves cs) ++ operands others
   operands-ands none others = refl
   operands-ands (some c cs) others =
-      joined (leaves_of c) (all_leaves cs) (operands others) _ _ (operands-parentheses (is_chain (shape_of c)) (printed (shape_of c)) (leaves_of c) (more_ands (all_shapes cs) others) (operands-printed c)) (operands-more_ands cs others)
+      joined (leaves_of c) (all_leaves cs) (operands others) _ _ (operands-parentheses (is_chain (shape_of c))
+      (printed (shape_of c)) (leaves_of c) (more_ands (all_shapes cs) others) (operands-printed c))
+      (operands-more_ands cs others)
 
-  operands-more_ands : (cs : Conditions) (others : List Token) → operands (more_ands (all_shapes cs) others) ≡ map operand_shape (all_leaves cs) ++ operands others
+  operands-more_ands : (cs : Conditions) (others : List Token) → operands (more_ands (all_shapes cs) others) ≡ map
+      operand_shape (all_leaves cs) ++ operands others
   operands-more_ands none others = refl
   operands-more_ands (some c cs) others =
-      joined (leaves_of c) (all_leaves cs) (operands others) _ _ (operands-parentheses (is_chain (shape_of c)) (printed (shape_of c)) (leaves_of c) (more_ands (all_shapes cs) others) (operands-printed c)) (operands-more_ands cs others)
+      joined (leaves_of c) (all_leaves cs) (operands others) _ _ (operands-parentheses (is_chain (shape_of c))
+      (printed (shape_of c)) (leaves_of c) (more_ands (all_shapes cs) others) (operands-printed c))
+      (operands-more_ands cs others)
 
-  operands-ors : (cs : Conditions) (others : List Token) → operands (or_printed (all_shapes cs) others) ≡ map operand_shape (all_leaves cs) ++ operands others
+  operands-ors : (cs : Conditions) (others : List Token) → operands (or_printed (all_shapes cs) others) ≡ map
+      operand_shape (all_leaves cs) ++ operands others
   operands-ors none others = refl
   operands-ors (some c cs) others =
-      joined (leaves_of c) (all_leaves cs) (operands others) _ _ (operands-parentheses (is_or (shape_of c)) (printed (shape_of c)) (leaves_of c) (more_ors (all_shapes cs) others) (operands-printed c)) (operands-more_ors cs others)
+      joined (leaves_of c) (all_leaves cs) (operands others) _ _ (operands-parentheses (is_or (shape_of c))
+      (printed (shape_of c)) (leaves_of c) (more_ors (all_shapes cs) others) (operands-printed c))
+      (operands-more_ors cs others)
 
-  operands-more_ors : (cs : Conditions) (others : List Token) → operands (more_ors (all_shapes cs) others) ≡ map operand_shape (all_leaves cs) ++ operands others
+  operands-more_ors : (cs : Conditions) (others : List Token) →
+      operands (more_ors (all_shapes cs) others) ≡ map operand_shape (all_leaves cs) ++ operands others
   operands-more_ors none others = refl
   operands-more_ors (some c cs) others =
-      joined (leaves_of c) (all_leaves cs) (operands others) _ _ (operands-parentheses (is_or (shape_of c)) (printed (shape_of c)) (leaves_of c) (more_ors (all_shapes cs) others) (operands-printed c)) (operands-more_ors cs others)
+      joined (leaves_of c) (all_leaves cs) (operands others) _ _ (operands-parentheses (is_or (shape_of c))
+      (printed (shape_of c)) (leaves_of c) (more_ors (all_shapes cs) others) (operands-printed c))
+      (operands-more_ors cs others)

@@ -1,5 +1,7 @@
 -- The printed text is cut into the printed tokens.
-use Rattle.std.proofs.Common.{◌≡◌, ◌≢◌, ℕ, suc, ◌+◌, ◌-◌, ◌<◌, ◌≤◌, ◌^◌, Bool, true, false, List, [], ◌∷◌, ◌++◌, length, take, drop, Some, None, refl, sym, ap, subst, ◌∙◌, arith, length-append, append_assoc}
+use Rattle.std.proofs.Common.{◌≡◌, ◌≢◌, ℕ, suc, ◌+◌, ◌-◌, ◌<◌, ◌≤◌, ◌^◌, Bool, true, false, List, [], ◌∷◌, ◌++◌}
+use Rattle.std.proofs.Common.{length, take, drop, Some, None, refl, sym, ap, subst, ◌∙◌, arith, length-append}
+use Rattle.std.proofs.Common.{append_assoc}
 use Rattle.std.specs.Prelude.{◌&&◌}
 use Rattle.std.specs.Fmt.{decimal}
 use Rattle.std.specs.List.{list_all}
@@ -12,9 +14,11 @@ use Rattle.dbe_tokens.specs.declared.token.Operand.TheVariants as o
 use Rattle.dbe_tokens.specs.Token.{is_space, is_part, are_parts, token_of, word_token, function_or_name}
 use Rattle.dbe_tokens.specs.Text.{IsLongest, AreTokens, EndsToken}
 use Rattle.dbe_tokens.proofs.TokenEnds.{ends}
-use Rattle.dbe_grammar.specs.Form.{Form, Forms, compare, between, within, begins, exists, lacks, not, and, or, none, some}
+use Rattle.dbe_grammar.specs.Form.{Form, Forms, compare, between, within, begins, exists, lacks, not, and, or, none}
+use Rattle.dbe_grammar.specs.Form.{some}
 use Rattle.dbe_grammar.specs.Grammar.{comma_text}
-use Rattle.dbe_grammar.specs.Printed.{printed, and_printed, more_ands, or_printed, more_ors, in_parentheses, is_chain, is_or, list_printed}
+use Rattle.dbe_grammar.specs.Printed.{printed, and_printed, more_ands, or_printed, more_ors, in_parentheses, is_chain}
+use Rattle.dbe_grammar.specs.Printed.{is_or, list_printed}
 use Rattle.dbe_tokens.specs.declared.token.Operand.{Operand}
 use Rattle.dbe_cond.specs.Printed.{gap, token_text, tokens_text, one_if_name, one_if_value, has_gap_behind}
 use Rattle.dbe_cond.proofs.Relabelled.{placed_at}
@@ -38,7 +42,9 @@ values_step n token = omega arith
 
 abbrev pub spelled : ℕ → ℕ → Bool → List Token → List ℕ
 spelled n v b [] = []
-spelled n v b (token ∷ tokens) = gap b token ++ (token_text n v token ++ spelled (next_names n token) (next_values v token) (has_gap_behind token) tokens)
+spelled n v b (token ∷ tokens) =
+    gap b token ++ (token_text n v token ++ spelled (next_names n token) (next_values v token) (has_gap_behind token)
+    tokens)
 
 pub text_spelled : (tokens : List Token) (n v : ℕ) (b : Bool) → tokens_text n v b tokens ≡ spelled n v b tokens
 text_spelled [] n v b = refl
@@ -58,12 +64,14 @@ abbrev pub spelled_tokens : ℕ → ℕ → ℕ → Bool → List Token → List
 spelled_tokens at n v b [] = []
 spelled_tokens at n v b (token ∷ tokens) =
     token_at (at + length (gap b token)) (length (token_text n v token)) token
-    ∷ spelled_tokens (at + length (gap b token) + length (token_text n v token)) (next_names n token) (next_values v token) (has_gap_behind token) tokens
+    ∷ spelled_tokens (at + length (gap b token) + length (token_text n v token)) (next_names n token)
+    (next_values v token) (has_gap_behind token) tokens
 
 abbrev pub spelled_starts : ℕ → ℕ → ℕ → Bool → List Token → List ℕ
 spelled_starts at n v b [] = []
 spelled_starts at n v b (token ∷ tokens) =
-    (at + length (gap b token)) ∷ spelled_starts (at + length (gap b token) + length (token_text n v token)) (next_names n token) (next_values v token) (has_gap_behind token) tokens
+    (at + length (gap b token)) ∷ spelled_starts (at + length (gap b token) + length (token_text n v token))
+    (next_names n token) (next_values v token) (has_gap_behind token) tokens
 
 -- an opening parenthesis is next
 abbrev pub IsOpened : List Token → Type 0
@@ -92,7 +100,8 @@ calls-list : (list : List Operand) (others : List Token) → CallsOpen others �
 calls-list [] others h = h
 calls-list (a ∷ list) others h = calls-commas list others h
 
-calls-parentheses : (b : Bool) (text : List Token → List Token) (others : List Token) → ((u : List Token) → CallsOpen u → CallsOpen (text u)) → CallsOpen others → CallsOpen (in_parentheses b text others)
+calls-parentheses : (b : Bool) (text : List Token → List Token) (others : List Token) →
+    ((u : List Token) → CallsOpen u → CallsOpen (text u)) → CallsOpen others → CallsOpen (in_parentheses b text others)
 calls-parentheses true text others h k = h (t.Close ∷ others) k
 calls-parentheses false text others h k = h others k
 
@@ -110,19 +119,23 @@ mutual
 
   calls-ands : (fs : Forms) (others : List Token) → CallsOpen others → CallsOpen (and_printed fs others)
   calls-ands none others h = h
-  calls-ands (some f fs) others h = calls-parentheses (is_chain f) (printed f) (more_ands fs others) (calls-printed f) (calls-more_ands fs others h)
+  calls-ands (some f fs) others h = calls-parentheses (is_chain f) (printed f) (more_ands fs others) (calls-printed f)
+      (calls-more_ands fs others h)
 
   calls-more_ands : (fs : Forms) (others : List Token) → CallsOpen others → CallsOpen (more_ands fs others)
   calls-more_ands none others h = h
-  calls-more_ands (some f fs) others h = calls-parentheses (is_chain f) (printed f) (more_ands fs others) (calls-printed f) (calls-more_ands fs others h)
+  calls-more_ands (some f fs) others h = calls-parentheses (is_chain f) (printed f) (more_ands fs others)
+      (calls-printed f) (calls-more_ands fs others h)
 
   calls-ors : (fs : Forms) (others : List Token) → CallsOpen others → CallsOpen (or_printed fs others)
   calls-ors none others h = h
-  calls-ors (some f fs) others h = calls-parentheses (is_or f) (printed f) (more_ors fs others) (calls-printed f) (calls-more_ors fs others h)
+  calls-ors (some f fs) others h = calls-parentheses (is_or f) (printed f) (more_ors fs others) (calls-printed f)
+      (calls-more_ors fs others h)
 
   calls-more_ors : (fs : Forms) (others : List Token) → CallsOpen others → CallsOpen (more_ors fs others)
   calls-more_ors none others h = h
-  calls-more_ors (some f fs) others h = calls-parentheses (is_or f) (printed f) (more_ors fs others) (calls-printed f) (calls-more_ors fs others h)
+  calls-more_ors (some f fs) others h = calls-parentheses (is_or f) (printed f) (more_ors fs others) (calls-printed f)
+      (calls-more_ors fs others h)
 
 -- ---- each token
 
@@ -140,10 +153,12 @@ more_parts [] d small h = digit_is_part d small
 more_parts (b ∷ ds) d small h = all_more (b ∷ ds) d small h
 
 pub decimal_parts : (n : ℕ) → n < 2 ^ 64 → are_parts (decimal n) ≡ true
-decimal_parts n h = decimal_by_steps (λ k ds. are_parts ds ≡ true) (λ k lt. digit_is_part k lt) (λ k ds le e. more_parts ds (Rattle.std.proofs.Common.◌%◌ k 10) (omega arith) e) n h
+decimal_parts n h = decimal_by_steps (λ k ds. are_parts ds ≡ true) (λ k lt. digit_is_part k lt)
+    (λ k ds le e. more_parts ds (Rattle.std.proofs.Common.◌%◌ k 10) (omega arith) e) n h
 
 -- the text of a token spells it
-spells : (start n v : ℕ) (token : Token) → n < 2 ^ 64 → v < 2 ^ 64 → token_of start (token_text n v token) ≡ Some (token_at start (length (token_text n v token)) token)
+spells : (start n v : ℕ) (token : Token) → n < 2 ^ 64 → v < 2 ^ 64 →
+    token_of start (token_text n v token) ≡ Some (token_at start (length (token_text n v token)) token)
 unfolding word_token function_or_name
 spells start n v (t.Compare op.Eq) h k = refl
 spells start n v (t.Compare op.Ne) h k = refl
@@ -184,12 +199,23 @@ open_alone start (c ∷ []) h = refl
 open_alone start (c ∷ d ∷ bytes) h = refl
 
 longest : (start n v : ℕ) (token : Token) (tokens : List Token) → n < 2 ^ 64 → v < 2 ^ 64 → CallsOpen (token ∷ tokens) →
-    IsLongest start (token_text n v token ++ spelled (next_names n token) (next_values v token) (has_gap_behind token) tokens) (token_at start (length (token_text n v token)) token) (token_text n v token) (spelled (next_names n token) (next_values v token) (has_gap_behind token) tokens)
-longest start n v t.Open tokens h k calls = record { whole = refl; spelled = refl; longest = λ more others q ne. open_alone start more ne }
-longest start n v t.Exists tokens h k calls = ends start _ _ _ (spells start n v t.Exists h k) (opened_ends tokens n v calls.0)
-longest start n v t.NotExists tokens h k calls = ends start _ _ _ (spells start n v t.NotExists h k) (opened_ends tokens n v calls.0)
-longest start n v t.BeginsWith tokens h k calls = ends start _ _ _ (spells start n v t.BeginsWith h k) (opened_ends tokens n v calls.0)
-longest start n v token tokens h k calls = ends start _ _ _ (spells start n v token h k) (behind_gap tokens (next_names n token) (next_values v token))
+    IsLongest start (token_text n v token ++ spelled (next_names n token) (next_values v token) (has_gap_behind token)
+    tokens) (token_at start (length (token_text n v token)) token) (token_text n v token)
+    (spelled (next_names n token) (next_values v token) (has_gap_behind token) tokens)
+longest start n v t.Open tokens h k calls = record {
+  whole = refl;
+  spelled = refl;
+  longest =
+      λ more others q ne. open_alone start more ne;
+}
+longest start n v t.Exists tokens h k calls =
+    ends start _ _ _ (spells start n v t.Exists h k) (opened_ends tokens n v calls.0)
+longest start n v t.NotExists tokens h k calls = ends start _ _ _ (spells start n v t.NotExists h k)
+    (opened_ends tokens n v calls.0)
+longest start n v t.BeginsWith tokens h k calls = ends start _ _ _ (spells start n v t.BeginsWith h k)
+    (opened_ends tokens n v calls.0)
+longest start n v token tokens h k calls =
+    ends start _ _ _ (spells start n v token h k) (behind_gap tokens (next_names n token) (next_values v token))
 
 pub some_text : (n v : ℕ) (token : Token) → 0 < length (token_text n v token)
 some_text n v (t.Compare op.Eq) = omega arith
@@ -216,14 +242,17 @@ only_spaces true t.Close = refl
 only_spaces true t.Comma = refl
 only_spaces true token = refl
 
-pub cut-spelled : (tokens : List Token) (at n v : ℕ) (b : Bool) → CallsOpen tokens → n ≤ at → v ≤ at → at + length (spelled n v b tokens) ≤ 4096 →
-    AreTokens at (spelled n v b tokens) (spelled_tokens at n v b tokens) (spelled_starts at n v b tokens) (at + length (spelled n v b tokens)) []
+pub cut-spelled : (tokens : List Token) (at n v : ℕ) (b : Bool) → CallsOpen tokens → n ≤ at → v ≤ at →
+    at + length (spelled n v b tokens) ≤ 4096 →
+    AreTokens at (spelled n v b tokens) (spelled_tokens at n v b tokens) (spelled_starts at n v b tokens)
+    (at + length (spelled n v b tokens)) []
 cut-spelled [] at n v b calls few low short = record { gap = []; whole = refl; spaces = refl; place = refl }
 cut-spelled (token ∷ tokens) at n v b calls few low short =
     let space = gap b token in
     let word = token_text n v token in
     let back = spelled (next_names n token) (next_values v token) (has_gap_behind token) tokens in
-    let long : length (space ++ (word ++ back)) ≡ length space + (length word + length back) = length-append space (word ++ back) ∙ ap (λ x. length space + x) (length-append word back) in
+    let long : length (space ++ (word ++ back)) ≡ length space + (length word + length back) =
+    length-append space (word ++ back) ∙ ap (λ x. length space + x) (length-append word back) in
     let wide : 0 < length word = some_text n v token in
     let named : next_names n token ≤ n + 1 = few_names n token in
     let valued : next_values v token ≤ v + 1 = few_values v token in (
@@ -232,7 +261,11 @@ cut-spelled (token ∷ tokens) at n v b calls few low short =
       back,
       record { gap = space; whole = refl; spaces = only_spaces b token; place = refl },
       longest (at + length space) n v token tokens (omega arith) (omega arith) calls,
-      subst (λ e. AreTokens (at + length space + length word) back (spelled_tokens (at + length space + length word) (next_names n token) (next_values v token) (has_gap_behind token) tokens) (spelled_starts (at + length space + length word) (next_names n token) (next_values v token) (has_gap_behind token) tokens) e [])
+      subst (λ e. AreTokens (at + length space + length word) back (spelled_tokens (at + length space + length word)
+          (next_names n token) (next_values v token) (has_gap_behind token) tokens)
+          (spelled_starts (at + length space + length word) (next_names n token) (next_values v token)
+          (has_gap_behind token) tokens) e [])
           {x = at + length space + length word + length back} (omega arith)
-          (cut-spelled tokens (at + length space + length word) (next_names n token) (next_values v token) (has_gap_behind token) (calls_tail token tokens calls) (omega arith) (omega arith) (omega arith)),
+          (cut-spelled tokens (at + length space + length word) (next_names n token) (next_values v token)
+          (has_gap_behind token) (calls_tail token tokens calls) (omega arith) (omega arith) (omega arith)),
     )

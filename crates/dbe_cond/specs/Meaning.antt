@@ -1,5 +1,6 @@
 -- What a condition means over an item (Amazon DynamoDB Developer Guide, "Comparison operator and function reference").
--- The guide says what holds of values of one type that are there. What holds where a name is absent or the types differ is
+-- The guide says what holds of values of one type that are there. What holds where a name is absent or the types
+-- differ is
 -- this project's own, and so is the equality of numbers, sets, lists and maps by value.
 use Rattle.std.specs.Prelude.{ℕ, Bool, false, not, ◌&&◌, ◌||◌, true, List, Option, Some, None, nat_eq}
 use Rattle.std.specs.List.{list_any, starts_with}

@@ -3,7 +3,8 @@ use Rattle.std.specs.Prelude.{ℕ, List, [], ◌∷◌, ◌++◌, Option, nat_eq
 use Rattle.std.specs.List.{find, flat_map, starts_with}
 use Rattle.dbe_cond.specs.declared.operand.Operand.{Operand}
 use Rattle.dbe_cond.specs.declared.operand.Operand.TheVariants.{Name, Value}
-use Rattle.dbe_cond.specs.Condition.{Condition, Conditions, compare, between, within, begins, exists, lacks, not, and, or, none, some}
+use Rattle.dbe_cond.specs.Condition.{Condition, Conditions, compare, between, within, begins, exists, lacks, not, and}
+use Rattle.dbe_cond.specs.Condition.{or, none, some}
 
 abbrev pub operand_names : Operand → List (List ℕ)
 operand_names (Name name) = name ∷ []

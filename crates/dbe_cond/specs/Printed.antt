@@ -17,7 +17,8 @@ use Rattle.dbe_tokens.specs.declared.token.Operand.{Operand as TokenOperand}
 use Rattle.dbe_grammar.specs.Form.{Form, Forms}
 use Rattle.dbe_grammar.specs.Form as f
 use Rattle.dbe_grammar.specs.Printed.{printed}
-use Rattle.dbe_cond.specs.Condition.{Condition, Conditions, compare, between, within, begins, exists, lacks, not, and, or, none, some}
+use Rattle.dbe_cond.specs.Condition.{Condition, Conditions, compare, between, within, begins, exists, lacks, not, and}
+use Rattle.dbe_cond.specs.Condition.{or, none, some}
 use Rattle.dbe_cond.specs.Names.{names_of}
 use Rattle.dbe_cond.specs.Values.{values_of}
 use Rattle.dbe_cond.specs.declared.operand.Operand.{Operand}
@@ -104,12 +105,14 @@ abbrev pub gap : Bool → Token → List ℕ
 gap false token = []
 gap true token = if has_gap_before token then codes " " else []
 
--- Tokens with their gaps, each placeholder with the next number. So many names and so many values stand before them, and
+-- Tokens with their gaps, each placeholder with the next number. So many names and so many values stand before them,
+-- and
 -- what stands before them has a gap behind it or has none.
 abbrev pub tokens_text : ℕ → ℕ → Bool → List Token → List ℕ
 tokens_text names values behind [] = []
 tokens_text names values behind (token ∷ tokens) =
-    gap behind token ++ (token_text names values token ++ tokens_text (names + one_if_name token) (values + one_if_value token) (has_gap_behind token) tokens)
+    gap behind token ++ (token_text names values token ++ tokens_text (names + one_if_name token)
+    (values + one_if_value token) (has_gap_behind token) tokens)
 
 -- the text of a condition
 abbrev pub printed_text : Condition → List ℕ
@@ -117,7 +120,8 @@ printed_text c = tokens_text 0 0 false (printed (shape_of c) [])
 
 -- each of these at the placeholder of its place, in order of the placeholders' bytes
 abbrev pub by_placeholder : {X : Type 0} → List ℕ → List X → List (List ℕ × X)
-by_placeholder mark found = fold (λ entries e. insert_entry (slice_cmp nat_cmp) entries (numbered mark e.0) e.1) [] (enumerate_from 0 found)
+by_placeholder mark found = fold (λ entries e. insert_entry (slice_cmp nat_cmp) entries (numbered mark e.0) e.1) []
+    (enumerate_from 0 found)
 
 -- the names that are given for the placeholders in the text
 abbrev pub printed_names : Condition → List (List ℕ × List ℕ)

@@ -1,5 +1,6 @@
 -- Reading the text of a condition (this project's own).
-use Rattle.std.specs.Prelude.{◌≡◌, ◌≢◌, ℕ, ◌<◌, ◌≤◌, Bool, true, false, ◌||◌, List, [], ◌∷◌, length, nat_lt, get_or, Result, Ok, Err, ⊤}
+use Rattle.std.specs.Prelude.{◌≡◌, ◌≢◌, ℕ, ◌<◌, ◌≤◌, Bool, true, false, ◌||◌, List, [], ◌∷◌, length, nat_lt, get_or}
+use Rattle.std.specs.Prelude.{Result, Ok, Err, ⊤}
 use Rattle.dbe_values.specs.declared.value.AttrValue.{AttrValue}
 use Rattle.dbe_tokens.specs.Text.{IsCut, IsBadAt}
 use Rattle.dbe_tokens.specs.Deep.{IsTooDeep}
@@ -45,7 +46,8 @@ pub record Parses (text : List ℕ) (tokens : List Token) (form : Form) : Type 0
   pub are_tokens : AreTokensOf text tokens starts
   pub cond : IsCond tokens form
 
-pub record Reads (text : List ℕ) (names : List (List ℕ × List ℕ)) (values : List (List ℕ × AttrValue)) (c : Condition) : Type 0 where
+pub record Reads (text : List ℕ) (names : List (List ℕ × List ℕ)) (values : List (List ℕ × AttrValue)) (c : Condition)
+    : Type 0 where
   pub tokens : List Token
   pub form : Form
   pub parses : Parses text tokens form
@@ -94,7 +96,8 @@ pub record LacksName (text : List ℕ) (names : List (List ℕ × List ℕ)) (na
   pub first : not_given names (name_placeholders text tokens) ≡ name ∷ others
 
 -- the first placeholder of a value that is not given, where all names are
-pub record LacksValue (text : List ℕ) (names : List (List ℕ × List ℕ)) (values : List (List ℕ × AttrValue)) (name : List ℕ) : Type 0 where
+pub record LacksValue (text : List ℕ) (names : List (List ℕ × List ℕ)) (values : List (List ℕ × AttrValue))
+    (name : List ℕ) : Type 0 where
   pub tokens : List Token
   pub form : Form
   pub parses : Parses text tokens form

@@ -9,7 +9,8 @@ use Rattle.dbe_tokens.specs.declared.token.Operand.TheVariants as to
 use Rattle.dbe_tokens.specs.declared.token.Operand.{Operand as TokenOperand}
 use Rattle.dbe_grammar.specs.Form.{Form, Forms}
 use Rattle.dbe_grammar.specs.Form as f
-use Rattle.dbe_cond.specs.Condition.{Condition, Conditions, compare, between, within, begins, exists, lacks, not, and, or, none, some}
+use Rattle.dbe_cond.specs.Condition.{Condition, Conditions, compare, between, within, begins, exists, lacks, not, and}
+use Rattle.dbe_cond.specs.Condition.{or, none, some}
 use Rattle.dbe_cond.specs.declared.operand.Operand.{Operand}
 use Rattle.dbe_cond.specs.declared.operand.Operand.TheVariants as o
 use Rattle.dbe_cond.specs.Given.{given}
@@ -25,10 +26,15 @@ operand_of text names values (to.Value span) = o.Value (unwrap_or (given (bytes_
 
 abbrev mutual
   pub resolved : List ℕ → List (List ℕ × List ℕ) → List (List ℕ × AttrValue) → Form → Condition
-  resolved text names values (f.compare left op right) = compare (operand_of text names values left) op (operand_of text names values right)
-  resolved text names values (f.between value low high) = between (operand_of text names values value) (operand_of text names values low) (operand_of text names values high)
-  resolved text names values (f.within value list) = within (operand_of text names values value) (map (operand_of text names values) list)
-  resolved text names values (f.begins name front) = begins (name_of text names name) (operand_of text names values front)
+  resolved text names values (f.compare left op right) =
+      compare (operand_of text names values left) op (operand_of text names values right)
+  resolved text names values (f.between value low high) =
+      between (operand_of text names values value) (operand_of text names values low) (operand_of text names values
+      high)
+  resolved text names values (f.within value list) =
+      within (operand_of text names values value) (map (operand_of text names values) list)
+  resolved text names values (f.begins name front) =
+      begins (name_of text names name) (operand_of text names values front)
   resolved text names values (f.exists name) = exists (name_of text names name)
   resolved text names values (f.lacks name) = lacks (name_of text names name)
   resolved text names values (f.not form) = not (resolved text names values form)
@@ -37,4 +43,5 @@ abbrev mutual
 
   pub all_resolved : List ℕ → List (List ℕ × List ℕ) → List (List ℕ × AttrValue) → Forms → Conditions
   all_resolved text names values f.none = none
-  all_resolved text names values (f.some form forms) = some (resolved text names values form) (all_resolved text names values forms)
+  all_resolved text names values (f.some form forms) =
+      some (resolved text names values form) (all_resolved text names values forms)

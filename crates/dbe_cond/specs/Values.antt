@@ -4,7 +4,8 @@ use Rattle.std.specs.List.{flat_map}
 use Rattle.dbe_values.specs.declared.value.AttrValue.{AttrValue}
 use Rattle.dbe_cond.specs.declared.operand.Operand.{Operand}
 use Rattle.dbe_cond.specs.declared.operand.Operand.TheVariants.{Name, Value}
-use Rattle.dbe_cond.specs.Condition.{Condition, Conditions, compare, between, within, begins, exists, lacks, not, and, or, none, some}
+use Rattle.dbe_cond.specs.Condition.{Condition, Conditions, compare, between, within, begins, exists, lacks, not, and}
+use Rattle.dbe_cond.specs.Condition.{or, none, some}
 
 abbrev pub operand_values : Operand → List AttrValue
 operand_values (Name name) = []

@@ -30,6 +30,3 @@ pub use printed::Printed;
 pub use printing::{names_in, print, printed_is_read};
 pub use reading::{one_reading, one_refusal, read, read_is_lawful};
 pub use wanted::{Wanted, wants};
-
-#[cfg(test)]
-mod print_tests;

@@ -23,8 +23,7 @@ pub fn print(alloc: Global, cond: &Cond) -> Result<Printed, Memory>
     ensures values { IfOk result (λ p. p.values ≡ printed_values (condition_of cond.now)) }
 {
     let tree = shape(alloc, cond)?;
-    let mut tokens = Items::new(alloc);
-    dbe_grammar::print(&mut tokens, &tree)?;
+    let tokens = dbe_grammar::tokens_of(alloc, &tree)?;
     let mut names = Vec::new(alloc);
     push_names(alloc, &mut names, cond)?;
     let mut values = Vec::new(alloc);

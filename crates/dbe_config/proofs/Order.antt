@@ -3,7 +3,8 @@ use Rattle.std.proofs.Common.{◌≡◌, Bool, true, false, List, [], ◌∷◌,
 use Rattle.dbe_config.specs.declared.fault.ConfigFault.{ConfigFault}
 use Rattle.dbe_config.specs.Order.{first_of, AreKept, IsFirst}
 
-later_first : (g : ConfigFault) (rules : List (Bool × ConfigFault)) (fault : ConfigFault) → IsFirst rules fault → IsFirst ((false, g) ∷ rules) fault
+later_first : (g : ConfigFault) (rules : List (Bool × ConfigFault)) (fault : ConfigFault) → IsFirst rules fault →
+    IsFirst ((false, g) ∷ rules) fault
 later_first g rules fault first = record {
   earlier = (false, g) ∷ first.earlier;
   later = first.later;
@@ -11,20 +12,30 @@ later_first g rules fault first = record {
   kept = (refl, first.kept);
 }
 
-head_first : (t : Bool) (g : ConfigFault) (rules : List (Bool × ConfigFault)) (fault : ConfigFault) → (first_of rules ≡ Some fault → IsFirst rules fault)
+head_first : (t : Bool) (g : ConfigFault) (rules : List (Bool × ConfigFault)) (fault : ConfigFault) →
+    (first_of rules ≡ Some fault → IsFirst rules fault)
     → (if t then Some g else first_of rules) ≡ Some fault → IsFirst ((t, g) ∷ rules) fault
-head_first true g rules fault others is = let same : g ≡ fault = (cc) in record { earlier = []; later = rules; place = ap (λ (f : ConfigFault). (true, f) ∷ rules) same; kept = tt }
+head_first true g rules fault others is = let same : g ≡ fault = (cc) in record {
+  earlier = [];
+  later = rules;
+  place =
+      ap (λ (f : ConfigFault). (true, f) ∷ rules) same;
+  kept = tt;
+}
 head_first false g rules fault others is = later_first g rules fault (others is)
 
-pub is_first : (rules : List (Bool × ConfigFault)) (fault : ConfigFault) → first_of rules ≡ Some fault → IsFirst rules fault
+pub is_first : (rules : List (Bool × ConfigFault)) (fault : ConfigFault) → first_of rules ≡ Some fault →
+    IsFirst rules fault
 is_first [] fault is = absurd (cc)
 is_first (b ∷ rules) fault is = head_first b.0 b.1 rules fault (is_first rules fault) is
 
-first_at : (earlier later : List (Bool × ConfigFault)) (fault : ConfigFault) → AreKept earlier → first_of (earlier ++ (true, fault) ∷ later) ≡ Some fault
+first_at : (earlier later : List (Bool × ConfigFault)) (fault : ConfigFault) → AreKept earlier →
+    first_of (earlier ++ (true, fault) ∷ later) ≡ Some fault
 first_at [] later fault kept = refl
 first_at (b ∷ earlier) later fault kept = rw kept.0 (first_at earlier later fault kept.1)
 
-pub only_first : (rules : List (Bool × ConfigFault)) (fault : ConfigFault) → IsFirst rules fault → first_of rules ≡ Some fault
+pub only_first : (rules : List (Bool × ConfigFault)) (fault : ConfigFault) → IsFirst rules fault →
+    first_of rules ≡ Some fault
 only_first rules fault first = ap first_of first.place ∙ first_at first.earlier first.later fault first.kept
 
 head_kept : (t : Bool) (g : ConfigFault) (rules : List (Bool × ConfigFault)) → (first_of rules ≡ None → AreKept rules)

@@ -1,5 +1,7 @@
 -- The names that a walk has seen.
-use Rattle.std.proofs.Common.{◌≡◌, ◌<◌, ◌+◌, ℕ, Bool, true, false, List, [], ◌∷◌, ◌||◌, refl, ap, sym, ◌∙◌, is_some, Some, String, string_bytes, string_cmp, Global, BTreeMap, bytes_eq, map, length, drop, get_or, cond}
+use Rattle.std.proofs.Common.{◌≡◌, ◌<◌, ◌+◌, ℕ, Bool, true, false, List, [], ◌∷◌, ◌||◌, refl, ap, sym, ◌∙◌, is_some}
+use Rattle.std.proofs.Common.{Some, String, string_bytes, string_cmp, Global, BTreeMap, bytes_eq, map, length, drop}
+use Rattle.std.proofs.Common.{get_or, cond}
 use Rattle.std.specs.Prelude.{⊤}
 use Rattle.std.specs.List.{list_any}
 use Rattle.std.specs.BTreeMap.{get_by_text, Updates}
@@ -20,9 +22,11 @@ or_swap false false true d = refl
 or_swap false false false d = refl
 
 -- a test that holds of one name more
-any_more : (p q : List ℕ → Bool) (name : List ℕ) → ((n : List ℕ) → q n ≡ (bytes_eq name n || p n)) → (names : List (List ℕ)) → list_any q names ≡ (is_among name names || list_any p names)
+any_more : (p q : List ℕ → Bool) (name : List ℕ) → ((n : List ℕ) → q n ≡ (bytes_eq name n || p n)) →
+    (names : List (List ℕ)) → list_any q names ≡ (is_among name names || list_any p names)
 any_more p q name more [] = refl
-any_more p q name more (n ∷ names) = rw (more n, any_more p q name more names) (or_swap (bytes_eq name n) (p n) (is_among name names) (list_any p names))
+any_more p q name more (n ∷ names) = rw (more n, any_more p q name more names) (or_swap (bytes_eq name n) (p n)
+    (is_among name names) (list_any p names))
 
 or_turn : (a b t : Bool) → ((a || b) || t) ≡ (b || (a || t))
 or_turn true true t = refl
@@ -30,7 +34,8 @@ or_turn true false t = refl
 or_turn false true t = refl
 or_turn false false t = refl
 
-front : {X : Type 0} → (xs : List X) (i : ℕ) (x : X) → i < length xs → x ≡ get_or xs i x → drop i xs ≡ x ∷ drop (i + 1) xs
+front : {X : Type 0} → (xs : List X) (i : ℕ) (x : X) → i < length xs → x ≡ get_or xs i x →
+    drop i xs ≡ x ∷ drop (i + 1) xs
 front xs i x lt is = drop_more xs i x lt ∙ ap (λ y. y ∷ drop (i + 1) xs) (sym is)
 
 -- one name more that is new
@@ -40,9 +45,13 @@ pub twice_step : {X : Type 0} → (f : X → List ℕ) (xs : List X) (i : ℕ) (
     → (list_any q (map f (drop (i + 1) xs)) || is_twice (map f (drop (i + 1) xs))) ≡ all
 twice_step {X = X} f xs i x p q all lt is fresh more done =
     let names = map f (drop (i + 1) xs) in
-    let known : (list_any p (map f (drop i xs)) || is_twice (map f (drop i xs))) ≡ (list_any p (map f (x ∷ drop (i + 1) xs)) || is_twice (map f (x ∷ drop (i + 1) xs))) = ap (λ (ys : List X). list_any p (map f ys) || is_twice (map f ys)) (front xs i x lt is) in
-    let opened : (list_any p (map f (x ∷ drop (i + 1) xs)) || is_twice (map f (x ∷ drop (i + 1) xs))) ≡ (list_any p names || (is_among (f x) names || is_twice names)) = rw fresh refl in
-    ap (λ b. b || is_twice names) (any_more p q (f x) more names) ∙ or_turn (is_among (f x) names) (list_any p names) (is_twice names)
+    let known : (list_any p (map f (drop i xs)) || is_twice (map f (drop i xs))) ≡
+    (list_any p (map f (x ∷ drop (i + 1) xs)) || is_twice (map f (x ∷ drop (i + 1) xs))) =
+    ap (λ (ys : List X). list_any p (map f ys) || is_twice (map f ys)) (front xs i x lt is) in
+    let opened : (list_any p (map f (x ∷ drop (i + 1) xs)) || is_twice (map f (x ∷ drop (i + 1) xs))) ≡
+    (list_any p names || (is_among (f x) names || is_twice names)) = rw fresh refl in
+    ap (λ b. b || is_twice names) (any_more p q (f x) more names) ∙ or_turn (is_among (f x) names) (list_any p names)
+    (is_twice names)
     ∙ sym opened ∙ sym known ∙ done
 
 -- a name that was seen before
@@ -50,8 +59,11 @@ pub twice_found : {X : Type 0} → (f : X → List ℕ) (xs : List X) (i : ℕ) 
     → i < length xs → x ≡ get_or xs i x → p (f x) ≡ true
     → (list_any p (map f (drop i xs)) || is_twice (map f (drop i xs))) ≡ all → true ≡ all
 twice_found {X = X} f xs i x p all lt is seen done =
-    let known : (list_any p (map f (drop i xs)) || is_twice (map f (drop i xs))) ≡ (list_any p (map f (x ∷ drop (i + 1) xs)) || is_twice (map f (x ∷ drop (i + 1) xs))) = ap (λ (ys : List X). list_any p (map f ys) || is_twice (map f ys)) (front xs i x lt is) in
-    let opened : (list_any p (map f (x ∷ drop (i + 1) xs)) || is_twice (map f (x ∷ drop (i + 1) xs))) ≡ true = rw seen refl in
+    let known : (list_any p (map f (drop i xs)) || is_twice (map f (drop i xs))) ≡
+    (list_any p (map f (x ∷ drop (i + 1) xs)) || is_twice (map f (x ∷ drop (i + 1) xs))) =
+    ap (λ (ys : List X). list_any p (map f ys) || is_twice (map f ys)) (front xs i x lt is) in
+    let opened : (list_any p (map f (x ∷ drop (i + 1) xs)) || is_twice (map f (x ∷ drop (i + 1) xs))) ≡ true =
+    rw seen refl in
     sym opened ∙ sym known ∙ done
 
 -- nothing is seen at the start
@@ -64,8 +76,10 @@ is_some_choice true x = refl
 is_some_choice false x = refl
 
 -- what a map that got one name more has seen
-pub seen_more : (key : String Global) (name : List ℕ) (seen seen' : BTreeMap (String Global) ⊤) → Updates string_cmp seen seen' key (Some tt) → string_bytes key ≡ name
+pub seen_more : (key : String Global) (name : List ℕ) (seen seen' : BTreeMap (String Global) ⊤) →
+    Updates string_cmp seen seen' key (Some tt) → string_bytes key ≡ name
     → (n : List ℕ) → is_seen seen' n ≡ (bytes_eq name n || is_seen seen n)
 seen_more key name seen seen' updates same n =
-    ap is_some (btree_map_updates_text (string_bytes key) seen seen' (Some tt) updates n) ∙ is_some_choice (bytes_eq (string_bytes key) n) (get_by_text seen n)
+    ap is_some (btree_map_updates_text (string_bytes key) seen seen' (Some tt) updates n) ∙
+    is_some_choice (bytes_eq (string_bytes key) n) (get_by_text seen n)
     ∙ ap (λ k. bytes_eq k n || is_seen seen n) same

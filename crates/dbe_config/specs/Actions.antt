@@ -1,5 +1,6 @@
 -- Names and what is done with them (this project's own).
-use Rattle.std.specs.Prelude.{ℕ, ◌||◌, Bool, true, false, List, [], ◌∷◌, nat_eq, codes, bytes_eq, Option, Some, None, if◌then◌else◌}
+use Rattle.std.specs.Prelude.{ℕ, ◌||◌, Bool, true, false, List, [], ◌∷◌, nat_eq, codes, bytes_eq, Option, Some, None}
+use Rattle.std.specs.Prelude.{if◌then◌else◌}
 use Rattle.std.specs.List.{starts_with}
 use Rattle.dbe_values.specs.declared.key.KeyName.{KeyName}
 use Rattle.dbe_values.specs.declared.key.KeySchema.{KeySchema}
@@ -33,9 +34,11 @@ or_unsigned (Some a) unsigned = Some a
 or_unsigned None true = Some action.DoNothing
 or_unsigned None false = None
 
--- A key name is signed only; any other name has its listed action, else none is taken where it begins with the unsigned prefix.
+-- A key name is signed only; any other name has its listed action, else none is taken where it begins with the
+-- unsigned prefix.
 abbrev pub action_for : KeySchema → List (List ℕ × Action) → Option (List ℕ) → List ℕ → Option Action
-action_for schema actions prefix name = if is_key name schema then Some action.SignOnly else or_unsigned (action_at name actions) (has_prefix prefix name)
+action_for schema actions prefix name = if is_key name schema then Some action.SignOnly else or_unsigned
+    (action_at name actions) (has_prefix prefix name)
 
 abbrev pub is_do_nothing : Option Action → Bool
 is_do_nothing None = false

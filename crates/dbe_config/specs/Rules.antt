@@ -1,5 +1,6 @@
 -- The rules of a configuration that has the right form, each by itself (this project's own).
-use Rattle.std.specs.Prelude.{ℕ, ◌==◌, ◌&&◌, ◌||◌, not, Bool, true, false, List, [], ◌∷◌, length, map, nat_eq, nat_lt, bytes_eq, Option, Some, None, is_none, if◌then◌else◌}
+use Rattle.std.specs.Prelude.{ℕ, ◌==◌, ◌&&◌, ◌||◌, not, Bool, true, false, List, [], ◌∷◌, length, map, nat_eq, nat_lt}
+use Rattle.std.specs.Prelude.{bytes_eq, Option, Some, None, is_none, if◌then◌else◌}
 use Rattle.std.specs.List.{starts_with, list_any}
 use Rattle.dbe_values.specs.declared.key.KeyName.{KeyName}
 use Rattle.dbe_values.specs.declared.key.KeySchema.{KeySchema}
@@ -34,7 +35,8 @@ is_sort_listed_otherwise None actions = false
 is_sort_listed_otherwise (Some key) actions = is_other (action_at key.name actions)
 
 abbrev pub is_key_listed_otherwise : KeySchema → List (List ℕ × Action) → Bool
-is_key_listed_otherwise schema actions = is_other (action_at schema.partition.name actions) || is_sort_listed_otherwise schema.sort actions
+is_key_listed_otherwise schema actions = is_other (action_at schema.partition.name actions) ||
+    is_sort_listed_otherwise schema.sort actions
 
 -- ---- no name begins as those that dbe keeps for itself
 
@@ -58,7 +60,8 @@ abbrev pub compound_names : List Compound → List (List ℕ)
 compound_names compounds = map (λ c. c.name) compounds
 
 abbrev pub uses_reserved_name : Setting → Bool
-uses_reserved_name s = is_key_reserved s.schema || lists_reserved s.actions || has_reserved (virtual_names s.virtuals) || has_reserved (compound_names s.compounds)
+uses_reserved_name s = is_key_reserved s.schema || lists_reserved s.actions || has_reserved (virtual_names s.virtuals)
+    || has_reserved (compound_names s.compounds)
 
 -- ---- no name stands twice
 
@@ -114,7 +117,8 @@ has_wrong_length beacons = list_any (λ b. b.length == 0) beacons
 
 -- a key, or an attribute that is encrypted or signed
 abbrev pub is_signed_name : KeySchema → List (List ℕ × Action) → List ℕ → Bool
-is_signed_name schema actions name = is_key name schema || is_encrypted (action_at name actions) || is_signed_only (action_at name actions)
+is_signed_name schema actions name = is_key name schema || is_encrypted (action_at name actions) || is_signed_only
+    (action_at name actions)
 
 abbrev pub has_wrong_from : KeySchema → List (List ℕ × Action) → Virtual → Bool
 has_wrong_from schema actions v = list_any (λ p. not (is_signed_name schema actions p.from)) v.parts
@@ -129,14 +133,16 @@ has_wrong_beacon actions virtuals beacons = list_any (λ b. not (is_beacon_sourc
 -- A standard beacon for an encrypted part, else a key or an attribute that is signed only.
 abbrev pub is_part_source : KeySchema → List (List ℕ × Action) → List Standard → Part → Bool
 is_part_source schema actions beacons p =
-    if p.encrypted then is_among p.from (standard_names beacons) else is_key p.from schema || is_signed_only (action_at p.from actions)
+    if p.encrypted then is_among p.from (standard_names beacons) else is_key p.from schema || is_signed_only
+    (action_at p.from actions)
 
 abbrev pub has_unknown_part : ℕ → Constructor → Bool
 has_unknown_part count k = list_any (λ e. not (nat_lt e.part count)) k.parts
 
 abbrev pub has_wrong_part : KeySchema → List (List ℕ × Action) → List Standard → Compound → Bool
 has_wrong_part schema actions beacons c =
-    list_any (λ p. not (is_part_source schema actions beacons p)) c.parts || list_any (has_unknown_part (length c.parts)) c.constructors
+    list_any (λ p. not (is_part_source schema actions beacons p)) c.parts || list_any
+    (has_unknown_part (length c.parts)) c.constructors
 
 -- a standard beacon or a compound
 abbrev pub has_beacons : List Standard → List Compound → Bool
@@ -185,7 +191,8 @@ ring_name (recipient.Raw namespace name key) = Some (namespace, name)
 ring_name (recipient.Branch branch) = None
 
 abbrev pub is_same_ring : Recipient → Recipient → Bool
-is_same_ring (recipient.Raw namespace name key) (recipient.Raw namespace' name' key') = bytes_eq namespace namespace' && bytes_eq name name'
+is_same_ring (recipient.Raw namespace name key) (recipient.Raw namespace' name' key') =
+    bytes_eq namespace namespace' && bytes_eq name name'
 is_same_ring (recipient.Raw namespace name key) (recipient.Branch branch) = false
 is_same_ring (recipient.Branch branch) (recipient.Raw namespace name key) = false
 is_same_ring (recipient.Branch branch) (recipient.Branch branch') = true

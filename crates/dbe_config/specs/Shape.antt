@@ -1,5 +1,6 @@
 -- What the members of a configuration spell (this project's own). None stands for every fault of form.
-use Rattle.std.specs.Prelude.{ℕ, suc, ◌+◌, ◌==◌, ◌&&◌, Bool, true, false, List, [], ◌∷◌, length, map, nat_lt, nat_le, codes, bytes_eq, Option, Some, None, option_map, option_and_then, if◌then◌else◌}
+use Rattle.std.specs.Prelude.{ℕ, suc, ◌+◌, ◌==◌, ◌&&◌, Bool, true, false, List, [], ◌∷◌, length, map, nat_lt, nat_le}
+use Rattle.std.specs.Prelude.{codes, bytes_eq, Option, Some, None, option_map, option_and_then, if◌then◌else◌}
 use Rattle.std.specs.Ordering.{nat_cmp}
 use Rattle.std.specs.Cmp.Lexicographic.{slice_cmp}
 use Rattle.std.specs.BTreeMap.{insert_entry}
@@ -28,7 +29,8 @@ use Rattle.dbe_config.specs.declared.constructor.Constructor.{Constructor}
 use Rattle.dbe_config.specs.declared.constructor.ConstructorPart.{ConstructorPart}
 use Rattle.dbe_config.specs.declared.entry.Entry.{Entry}
 use Rattle.dbe_config.specs.Setting.{Setting}
-use Rattle.dbe_config.specs.Spelling.{any_text_in, text_in, text_of, optional, bool_in, with_first, array_of, list_in, list_or_none}
+use Rattle.dbe_config.specs.Spelling.{any_text_in, text_in, text_of, optional, bool_in, with_first, array_of, list_in}
+use Rattle.dbe_config.specs.Spelling.{list_or_none}
 use Rattle.dbe_config.specs.Steps.{step_in}
 
 -- ---- keys
@@ -48,7 +50,8 @@ key_by (Some name) (Some k) = Some (record { name = name; kind = k })
 
 -- a name of 1 to 245 bytes and its type
 abbrev pub key_in : Data → Option KeyName
-key_in d = if size_of d == 2 then key_by (text_in 1 245 (get (codes "name") d)) (option_and_then kind_of (any_text_in (get (codes "type") d))) else None
+key_in d = if size_of d == 2 then key_by (text_in 1 245 (get (codes "name") d)) (option_and_then kind_of
+    (any_text_in (get (codes "type") d))) else None
 
 abbrev pub schema_by : Option KeyName → Option (Option KeyName) → Option KeySchema
 schema_by None s = None
@@ -76,7 +79,8 @@ listed_action name (Some word) = if nat_lt 0 (length name) && nat_le (length nam
 -- the listed names, each put at its place in the order of names
 abbrev pub actions_in : List (List ℕ × Action) → Members → Option (List (List ℕ × Action))
 actions_in found no_members = Some found
-actions_in found (member name d ms) = option_and_then (λ a. actions_in (insert_entry (slice_cmp nat_cmp) found name a) ms) (listed_action name (as_str d))
+actions_in found (member name d ms) = option_and_then (λ a. actions_in (insert_entry (slice_cmp nat_cmp) found name a)
+    ms) (listed_action name (as_str d))
 
 -- at most 1,000 names
 abbrev pub listed_in : Option Data → Option (List (List ℕ × Action))
@@ -88,7 +92,11 @@ listed_in (Some d) = if nat_le (size_of d) 1000 then option_and_then (actions_in
 -- a key of 1 to 255 bytes and a value of at most 1,024
 abbrev pub pair_of : List ℕ → Option (List ℕ) → Option ContextPair
 pair_of key None = None
-pair_of key (Some value) = if nat_lt 0 (length key) && nat_le (length key) 255 then Some (record { key = key; value = value }) else None
+pair_of key (Some value) = if nat_lt 0 (length key) && nat_le (length key) 255 then Some (record {
+  key = key;
+  value =
+      value;
+}) else None
 
 -- the pairs of an object, whose members are in order of names
 abbrev pub pairs_in : Members → Option (List ContextPair)
@@ -120,7 +128,8 @@ raw_by (Some namespace) (Some name) (Some key) = Some (recipient.Raw namespace n
 abbrev pub raw_in : Data → Option Recipient
 raw_in d =
     if size_of d == 4
-    then raw_by (namespace_of (text_in 1 255 (get (codes "namespace") d))) (text_in 1 255 (get (codes "name") d)) (option_and_then key_bytes_of (any_text_in (get (codes "key") d)))
+    then raw_by (namespace_of (text_in 1 255 (get (codes "namespace") d))) (text_in 1 255 (get (codes "name") d))
+    (option_and_then key_bytes_of (any_text_in (get (codes "key") d)))
     else None
 
 abbrev pub branch_id_of : List ℕ → Option (List ℕ)
@@ -154,7 +163,8 @@ virtual_part_by (Some from) None = None
 virtual_part_by (Some from) (Some steps) = Some (record { from = from; steps = steps })
 
 abbrev pub virtual_part_in : Data → Option VirtualPart
-virtual_part_in d = if size_of d == 2 then virtual_part_by (any_text_in (get (codes "from") d)) (list_in 16 step_in (get (codes "steps") d)) else None
+virtual_part_in d = if size_of d == 2 then virtual_part_by (any_text_in (get (codes "from") d))
+    (list_in 16 step_in (get (codes "steps") d)) else None
 
 -- at least one part
 abbrev pub virtual_by : Option (List ℕ) → Option (List VirtualPart) → Option Virtual
@@ -164,7 +174,8 @@ virtual_by (Some name) (Some []) = None
 virtual_by (Some name) (Some (p ∷ ps)) = Some (record { name = name; parts = p ∷ ps })
 
 abbrev pub virtual_in : Data → Option Virtual
-virtual_in d = if size_of d == 2 then virtual_by (text_in 1 245 (get (codes "name") d)) (list_in 16 virtual_part_in (get (codes "parts") d)) else None
+virtual_in d = if size_of d == 2 then virtual_by (text_in 1 245 (get (codes "name") d)) (list_in 16 virtual_part_in
+    (get (codes "parts") d)) else None
 
 -- ---- standard beacons
 
@@ -183,7 +194,8 @@ standard_by (Some name) None = None
 standard_by (Some name) (Some l) = Some (record { name = name; length = l })
 
 abbrev pub standard_in : Data → Option Standard
-standard_in d = if size_of d == 2 then standard_by (any_text_in (get (codes "name") d)) (length_in (get (codes "length") d)) else None
+standard_in d = if size_of d == 2 then standard_by (any_text_in (get (codes "name") d))
+    (length_in (get (codes "length") d)) else None
 
 -- ---- compounds
 
@@ -205,12 +217,14 @@ part_by None prefix encrypted from = None
 part_by (Some name) None encrypted from = None
 part_by (Some name) (Some prefix) None from = None
 part_by (Some name) (Some prefix) (Some encrypted) None = None
-part_by (Some name) (Some prefix) (Some encrypted) (Some from) = Some (record { name = name; prefix = prefix; encrypted = encrypted; from = from })
+part_by (Some name) (Some prefix) (Some encrypted) (Some from) =
+    Some (record { name = name; prefix = prefix; encrypted = encrypted; from = from })
 
 abbrev pub part_in : Data → Option Part
 part_in d =
     if size_of d == 4
-    then part_by (any_text_in (get (codes "name") d)) (any_text_in (get (codes "prefix") d)) (option_and_then is_encrypted_of (any_text_in (get (codes "kind") d))) (any_text_in (get (codes "from") d))
+    then part_by (any_text_in (get (codes "name") d)) (any_text_in (get (codes "prefix") d))
+    (option_and_then is_encrypted_of (any_text_in (get (codes "kind") d))) (any_text_in (get (codes "from") d))
     else None
 
 abbrev pub entry_by : Option (List ℕ) → Option Bool → Option Entry
@@ -220,7 +234,8 @@ entry_by (Some name) (Some required) = Some (record { name = name; required = re
 
 -- an entry of a constructor
 abbrev pub entry_in : Data → Option Entry
-entry_in d = if size_of d == 2 then entry_by (any_text_in (get (codes "part") d)) (bool_in (get (codes "required") d)) else None
+entry_in d = if size_of d == 2 then entry_by (any_text_in (get (codes "part") d)) (bool_in (get (codes "required") d))
+    else None
 
 -- the place of the part of a name, or the number of parts where there is none
 abbrev pub place_of : List ℕ → List Part → ℕ
@@ -250,7 +265,8 @@ compound_by None split parts constructors = None
 compound_by (Some name) None parts constructors = None
 compound_by (Some name) (Some split) None constructors = None
 compound_by (Some name) (Some split) (Some parts) constructors =
-    option_map (λ c. record { name = name; split = split; parts = parts; constructors = c }) (constructors_in parts constructors)
+    option_map (λ c. record { name = name; split = split; parts = parts; constructors = c })
+    (constructors_in parts constructors)
 
 abbrev pub one_if : Option Data → ℕ
 one_if None = 0
@@ -259,7 +275,9 @@ one_if (Some d) = 1
 abbrev pub compound_in : Data → Option Compound
 compound_in d =
     if size_of d == 3 + one_if (get (codes "constructors") d)
-    then compound_by (text_in 1 245 (get (codes "name") d)) (option_map split_of (any_text_in (get (codes "split") d))) (list_in 16 part_in (get (codes "parts") d)) (get (codes "constructors") d)
+    then compound_by (text_in 1 245 (get (codes "name") d))
+    (option_map split_of (any_text_in (get (codes "split") d))) (list_in 16 part_in (get (codes "parts") d))
+    (get (codes "constructors") d)
     else None
 
 -- ---- the whole
@@ -270,7 +288,8 @@ prefix_in d = text_of 1 255 (as_str d)
 -- how many of the members are there that may be left out
 abbrev pub count_optional : Data → ℕ
 count_optional d =
-    one_if (get (codes "sort") d) + one_if (get (codes "unsigned_prefix") d) + one_if (get (codes "context") d) + one_if (get (codes "beacon_branch") d)
+    one_if (get (codes "sort") d) + one_if (get (codes "unsigned_prefix") d) + one_if (get (codes "context") d) +
+    one_if (get (codes "beacon_branch") d)
     + one_if (get (codes "virtual") d) + one_if (get (codes "beacons") d) + one_if (get (codes "compounds") d)
 
 -- `table`, `partition`, `actions`, `recipients`, and no others but those that may be left out
@@ -291,7 +310,19 @@ setting_in d =
     option_and_then (λ virtuals.
     option_and_then (λ beacons.
     option_and_then (λ compounds.
-    Some (record { table = table; schema = schema; actions = actions; unsigned_prefix = unsigned_prefix; context = context; recipients = recipients; beacon_branch = beacon_branch; virtuals = virtuals; beacons = beacons; compounds = compounds }))
+    Some (record {
+      table = table;
+      schema = schema;
+      actions = actions;
+      unsigned_prefix = unsigned_prefix;
+      context =
+          context;
+      recipients = recipients;
+      beacon_branch = beacon_branch;
+      virtuals = virtuals;
+      beacons = beacons;
+      compounds = compounds;
+    }))
     (list_or_none 16 compound_in (get (codes "compounds") d)))
     (list_or_none 64 standard_in (get (codes "beacons") d)))
     (list_or_none 64 virtual_in (get (codes "virtual") d)))

@@ -1,5 +1,6 @@
 -- What texts, numbers and lists JSON values spell (this project's own).
-use Rattle.std.specs.Prelude.{ℕ, suc, ℤ, pos, negsuc, int_le, ◌&&◌, Bool, List, [], ◌∷◌, length, nat_le, Option, Some, None, option_and_then, if◌then◌else◌}
+use Rattle.std.specs.Prelude.{ℕ, suc, ℤ, pos, negsuc, int_le, ◌&&◌, Bool, List, [], ◌∷◌, length, nat_le, Option, Some}
+use Rattle.std.specs.Prelude.{None, option_and_then, if◌then◌else◌}
 use Rattle.std.specs.Str.{chars}
 use Rattle.serde_json.specs.Data.{Data, null, boolean, number, string, array, object, Items, no_items, item}
 use Rattle.serde_json.specs.Find.{as_str, as_array, as_bool, as_number, as_i64}

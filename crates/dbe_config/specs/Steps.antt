@@ -58,7 +58,8 @@ segments_of (Some c) (Some a) (Some b) = Some (step.Segments c a b)
 
 -- `["segments", c, a, b]`
 abbrev pub step_of_three : List ℕ → Option Data → Option Data → Option Data → Option TextStep
-step_of_three word a b c = if bytes_eq word (codes "segments") then segments_of (char_in a) (whole_in b) (whole_in c) else None
+step_of_three word a b c = if bytes_eq word (codes "segments") then segments_of (char_in a) (whole_in b) (whole_in c)
+    else None
 
 abbrev pub step_by : Option (List ℕ) → Data → Option TextStep
 step_by None d = None

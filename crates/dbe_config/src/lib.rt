@@ -14,8 +14,6 @@ mod entry;
 mod fault;
 mod key_rules;
 mod laws;
-#[cfg(test)]
-mod lent_tests;
 mod named;
 mod names;
 mod read_actions;
@@ -33,8 +31,6 @@ mod source_rules;
 mod spelled;
 mod spelling;
 mod standard;
-#[cfg(test)]
-mod tests;
 mod text_step;
 mod virtual_field;
 

@@ -1,5 +1,6 @@
 -- The texts of compounds (this project's own).
-use Rattle.std.specs.Prelude.{ℕ, ◌||◌, not, Bool, List, ◌++◌, map, find, filter_map, slice_get, bytes_eq, Option, option_and_then, option_map, is_some, if◌then◌else◌}
+use Rattle.std.specs.Prelude.{ℕ, ◌||◌, not, Bool, List, ◌++◌, map, find, filter_map, slice_get, bytes_eq, Option}
+use Rattle.std.specs.Prelude.{option_and_then, option_map, is_some, if◌then◌else◌}
 use Rattle.std.specs.Option.{option_zip, option_flatten}
 use Rattle.std.specs.List.{list_all, join_with_byte}
 use Rattle.dbe_values.specs.Attributes.{value_at}
@@ -33,7 +34,8 @@ is_usable parts texts k = list_all (is_satisfied parts texts) k.parts
 
 -- the present parts of the first usable constructor, in its order
 abbrev pub used_parts : Setting → List (List ℕ × AttrValue) → Compound → Option (List (Part × List ℕ))
-used_parts s row c = option_map (λ k. filter_map (present c.parts (part_texts s row c)) k.parts) (find (is_usable c.parts (part_texts s row c)) c.constructors)
+used_parts s row c = option_map (λ k. filter_map (present c.parts (part_texts s row c)) k.parts)
+    (find (is_usable c.parts (part_texts s row c)) c.constructors)
 
 -- prefix and text of each part, joined by the split character
 abbrev pub joined_pieces : ℕ → List (Part × List ℕ) → List ℕ

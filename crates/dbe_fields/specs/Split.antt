@@ -8,7 +8,8 @@ use Rattle.dbe_fields.specs.Compounds.{used_parts}
 
 -- the names of a compound and of its first such part, in the order of the constructor that is used
 abbrev pub split_in : Setting → List (List ℕ × AttrValue) → Compound → Option (List ℕ × List ℕ)
-split_in s row c = option_map (λ u. (c.name, u.0.name)) (find (λ u. has_byte c.split u.1) (unwrap_or (used_parts s row c) []))
+split_in s row c =
+    option_map (λ u. (c.name, u.0.name)) (find (λ u. has_byte c.split u.1) (unwrap_or (used_parts s row c) []))
 
 -- those of the first compound that has one
 unfoldable pub split_at : Setting → List (List ℕ × AttrValue) → Option (List ℕ × List ℕ)

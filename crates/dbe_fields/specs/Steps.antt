@@ -1,5 +1,6 @@
 -- The steps of a virtual field, as functions on the Unicode scalar values of a text (this project's own).
-use Rattle.std.specs.Prelude.{ℕ, suc, ◌-◌, ◌==◌, ℤ, pos, negsuc, List, [], ◌∷◌, ◌++◌, length, map, reverse, take, drop, slice_get, slice_range, chars, Option, Some, option_and_then}
+use Rattle.std.specs.Prelude.{ℕ, suc, ◌-◌, ◌==◌, ℤ, pos, negsuc, List, [], ◌∷◌, ◌++◌, length, map, reverse, take}
+use Rattle.std.specs.Prelude.{drop, slice_get, slice_range, chars, Option, Some, option_and_then}
 use Rattle.std.specs.Char.{to_ascii_uppercase, to_ascii_lowercase}
 use Rattle.std.specs.List.{slice_split, join_with_byte}
 use Rattle.dbe_config.specs.declared.text_step.TextStep.{TextStep}

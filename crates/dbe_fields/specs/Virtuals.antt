@@ -1,5 +1,6 @@
 -- Virtual fields (this project's own).
-use Rattle.std.specs.Prelude.{ℕ, List, [], ◌∷◌, ◌++◌, map, find, bytes_eq, chars, encode_utf8_all, Option, Some, None, option_and_then, option_map}
+use Rattle.std.specs.Prelude.{ℕ, List, [], ◌∷◌, ◌++◌, map, find, bytes_eq, chars, encode_utf8_all, Option, Some, None}
+use Rattle.std.specs.Prelude.{option_and_then, option_map}
 use Rattle.dbe_values.specs.Attributes.{value_at}
 use Rattle.dbe_values.specs.declared.value.AttrValue.{AttrValue, S}
 use Rattle.dbe_config.specs.Setting.{Setting}
@@ -10,7 +11,8 @@ use Rattle.dbe_fields.specs.Steps.{through}
 
 -- the text of a part's attribute after the part's steps
 abbrev pub part_chars : List (List ℕ × AttrValue) → VirtualPart → Option (List ℕ)
-part_chars row p = option_and_then (λ text. through p.steps (chars text)) (option_and_then value_text (value_at p.from row))
+part_chars row p = option_and_then (λ text. through p.steps (chars text)) (option_and_then value_text
+    (value_at p.from row))
 
 -- texts joined, where all are there
 abbrev pub joined : List (Option (List ℕ)) → Option (List ℕ)

@@ -10,8 +10,6 @@ mod pieces;
 mod places;
 mod split;
 mod steps;
-#[cfg(test)]
-mod tests;
 mod texts;
 mod value;
 mod virtuals;

@@ -1,12 +1,16 @@
 pub mod Follow
 pub mod Formats
-pub mod Fronts
+pub mod Prefixes
 pub mod Ties
 pub mod Spelled
 pub mod Headers
+pub mod Door
 pub mod Written
+pub mod Split
+pub mod Sorting
 pub mod Names
 pub mod Tags
 pub mod Entries
 pub mod Computed
 pub mod Loops
+pub mod ValidKeys

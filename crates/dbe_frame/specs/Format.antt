@@ -49,26 +49,29 @@ joined [] = []
 joined (x ∷ xs) = x ++ joined xs
 
 -- the first fields of a text: each is whole and passes its test
-abbrev pub IsFront : {A : Type 0} → Format A → List (List ℕ) → Type 0
-IsFront format [] = Unit {0}
-IsFront (ends x) (bytes ∷ others) = ⊥
-IsFront (field n test next) (bytes ∷ others) = (length bytes ≡ n) × (test bytes ≡ true) × IsFront (next bytes) others
+abbrev pub AreFirstFields : {A : Type 0} → Format A → List (List ℕ) → Type 0
+AreFirstFields format [] = Unit {0}
+AreFirstFields (ends x) (bytes ∷ others) = ⊥
+AreFirstFields (field n test next) (bytes ∷ others) = (length bytes ≡ n) × (test bytes ≡ true) ×
+    AreFirstFields (next bytes) others
 
 -- all fields of a text with this meaning
 abbrev pub Spells : {A : Type 0} → Format A → List (List ℕ) → A → Type 0
 Spells (ends x) [] meaning = meaning ≡ x
 Spells (ends x) (bytes ∷ others) meaning = ⊥
 Spells (field n test next) [] meaning = ⊥
-Spells (field n test next) (bytes ∷ others) meaning = (length bytes ≡ n) × (test bytes ≡ true) × Spells (next bytes) others meaning
+Spells (field n test next) (bytes ∷ others) meaning = (length bytes ≡ n) × (test bytes ≡ true) ×
+    Spells (next bytes) others meaning
 
 -- the bytes go on behind these
 abbrev pub Begins : List ℕ → List ℕ → Type 0
-Begins front bytes = (rest : List ℕ) × (bytes ≡ front ++ rest)
+Begins prefix bytes = (rest : List ℕ) × (bytes ≡ prefix ++ rest)
 
 -- the first fields that the bytes begin with, as many bytes as can be
-pub record LongestFront {A : Type 0} (format : Format A) (bytes : List ℕ) (size : ℕ) : Type 0 where
+pub record LongestPrefix {A : Type 0} (format : Format A) (bytes : List ℕ) (size : ℕ) : Type 0 where
   pub fields : List (List ℕ)
-  pub is_front : IsFront format fields
+  pub are_first : AreFirstFields format fields
   pub begins : Begins (joined fields) bytes
   pub has_size : length (joined fields) ≡ size
-  pub longest : (others : List (List ℕ)) → IsFront format others → Begins (joined others) bytes → length (joined others) ≤ size
+  pub longest : (others : List (List ℕ)) → AreFirstFields format others → Begins (joined others) bytes →
+      length (joined others) ≤ size

@@ -6,4 +6,6 @@ pub mod Keys
 pub mod Reading
 pub mod Record
 pub mod Signed
+pub mod Sizes
+pub mod Sorted
 pub mod Writing

@@ -1,12 +1,16 @@
--- A header read from front to back, as the steps of the code see it. The clauses of `read` tie this to `IsHeader`.
-use Rattle.std.specs.Prelude.{◌≡◌, ℕ, zero, suc, ◌==◌, Bool, true, List, [], ◌∷◌, length, take, drop, nat_lt, Option, Some, None, Result, Ok, Err, if◌then◌else◌}
+-- Steps of the reader; not part of what is promised.
+-- A header read from its first byte on. The clauses of `read` are those of `IsHeader` and `IsHeaderFault`.
+use Rattle.std.specs.Prelude.{◌≡◌, ℕ, zero, suc, ◌==◌, ◌&&◌, Bool, true, List, [], ◌∷◌, length, take, drop, nat_lt}
+use Rattle.std.specs.Prelude.{nat_le, Option, Some, None, Result, Ok, Err, if◌then◌else◌}
 use Rattle.std.specs.Int.{w16, from_be_bytes}
 use Rattle.dbe_rawring.specs.Edk.{EdkParts}
 use Rattle.dbe_frame.specs.Header.{HeaderParts, is_version, is_flavour, is_legend_byte, comes_after, is_edk_count}
+use Rattle.dbe_frame.specs.Sizes.{id_size, commitment_size, most_counted}
 use Rattle.dbe_frame.specs.declared.stop.Stop.{Stop}
 use Rattle.dbe_frame.specs.declared.stop.Stop.TheVariants as stop
 
--- Reading gives what was read, or how many bytes are left where the first field begins that is cut short or breaks its rule.
+-- Reading gives what was read, or how many bytes are left where the first field begins that is cut short or breaks
+-- its rule.
 infixl 10 ◌>>=◌
 abbrev pub ◌>>=◌ : {A B : Type 0} → Result A ℕ → (A → Result B ℕ) → Result B ℕ
 (Ok x) >>= f = f x
@@ -23,7 +27,8 @@ Gives view (Err e) read = Fails e read
 
 -- so many bytes that pass a test
 unfoldable pub bytes_at : ℕ → (List ℕ → Bool) → List ℕ → Result (List ℕ × List ℕ) ℕ
-bytes_at n test bytes = if nat_lt (length bytes) n then Err (length bytes) else if test (take n bytes) then Ok (take n bytes, drop n bytes) else Err (length bytes)
+bytes_at n test bytes = if nat_lt (length bytes) n then Err (length bytes) else if test (take n bytes) then Ok
+    (take n bytes, drop n bytes) else Err (length bytes)
 
 unfoldable pub byte_at : (ℕ → Bool) → List ℕ → Result (ℕ × List ℕ) ℕ
 byte_at test [] = Err 0
@@ -47,10 +52,10 @@ unfoldable pub many_at : {X : Type 0} → (List ℕ → Result (X × List ℕ) �
 many_at one zero bytes = Ok ([], bytes)
 many_at one (suc n) bytes = one bytes >>= λ x. many_at one n x.1 >>= λ xs. Ok (x.0 ∷ xs.0, xs.1)
 
-unfoldable pub legend_at : List ℕ → Result (List ℕ × List ℕ) ℕ
-legend_at bytes = do
+unfoldable pub legend_at : ℕ → List ℕ → Result (List ℕ × List ℕ) ℕ
+legend_at version bytes = do
   n ← number_at bytes
-  many_at (byte_at is_legend_byte) n.0 n.1
+  many_at (byte_at (is_legend_byte version)) n.0 n.1
 
 unfoldable pub key_at : Option (List ℕ) → List ℕ → Result (List ℕ × List ℕ) ℕ
 key_at before bytes = do
@@ -91,15 +96,34 @@ unfoldable pub header_at : List ℕ → Result (HeaderParts × List ℕ) ℕ
 header_at bytes = do
   version ← byte_at is_version bytes
   flavour ← byte_at is_flavour version.1
-  message_id ← bytes_at 32 any flavour.1
-  legend ← legend_at message_id.1
+  message_id ← bytes_at id_size any flavour.1
+  legend ← legend_at version.0 message_id.1
   context ← context_at legend.1
   edks ← edks_at context.1
-  commitment ← bytes_at 32 any edks.1
-  Ok (record { message_id = message_id.0; legend = legend.0; context = context.0; edks = edks.0; commitment = commitment.0 }, commitment.1)
+  commitment ← bytes_at commitment_size any edks.1
+  Ok (
+    record {
+      message_id = message_id.0;
+      legend = legend.0;
+      context = context.0;
+      edks = edks.0;
+      commitment =
+          commitment.0;
+    },
+    commitment.1,
+  )
 
 -- all of the bytes
 unfoldable pub all_of : List ℕ → Result HeaderParts ℕ
 all_of bytes = do
   h ← header_at bytes
   if length h.1 == 0 then Ok h.0 else Err (length h.1)
+
+-- a pair that may come after the key before it
+abbrev pub takes_pair : Option (List ℕ) → List ℕ × List ℕ → Bool
+takes_pair before pair = nat_le (length pair.0) most_counted && nat_le (length pair.1) most_counted && comes_after
+    before pair.0
+
+unfoldable pub takes_pairs : Option (List ℕ) → List (List ℕ × List ℕ) → Bool
+takes_pairs before [] = true
+takes_pairs before (pair ∷ pairs) = takes_pair before pair && takes_pairs (Some pair.0) pairs

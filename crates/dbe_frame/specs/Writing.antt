@@ -1,4 +1,5 @@
--- The parts of a header one behind the other, as the steps of the code write them.
+-- Steps of the writer; not part of what is promised.
+-- The parts of a header, one behind the other.
 use Rattle.std.specs.Prelude.{ℕ, List, ◌∷◌, ◌++◌, length}
 use Rattle.std.specs.List.{flat_map}
 use Rattle.dbe_rawring.specs.Edk.{EdkParts}

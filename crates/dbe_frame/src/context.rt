@@ -5,15 +5,19 @@ ghost use Rattle.dbe_values.specs.Keys.{is_lawful_key};
 ghost use Rattle.dbe_values.specs.KeyValues.{key_view};
 ghost use Rattle.dbe_canon.specs.Canon.{canon_of};
 ghost use Rattle.dbe_frame.specs.Header.{IsShortPair};
-ghost use Rattle.dbe_frame.specs.Context.{attribute_pair, computed_pairs, pairs_text, full_context, HasShortNames};
-ghost use Rattle.dbe_frame.specs.Keys.{IsShortName, IsNormalNumber, IsShortValue, plain_pairs, sorted_pairs};
+ghost use Rattle.dbe_frame.specs.Context.{attribute_pair, key_pairs, computed_pairs, pairs_text, full_context, HasShortNames};
+ghost use Rattle.dbe_frame.specs.Keys.{IsShortName, IsNormalNumber, IsShortValue};
+ghost use Rattle.dbe_frame.specs.Sizes.{most_named, most_counted};
 
 use crate::Pairs;
-use crate::writing::{put_bytes, put_pair_list};
+use crate::writing::{pairs_len, put_bytes, put_pair_list};
 use dbe_canon::{put_canon, type_id};
 use dbe_num::{Bytes, Memory, Text};
 use dbe_values::{AttrValue, KeyName, KeySchema, KeyValue};
 use std::alloc::Global;
+
+/// The bytes of two counts of pairs.
+const TWO_COUNTS: usize = 8;
 
 /// The full encryption context of a row: the pairs that are computed from the table, its schema and the row's key,
 /// and behind them the stored pairs.
@@ -31,28 +35,18 @@ pub fn context_bytes(
 {
     let computed = computed_pairs(alloc, schema, table, key)?;
     let stored = stored.as_slice();
-    let len = pairs_len(&computed).saturating_add(pairs_len(stored));
+    let len = TWO_COUNTS
+        .saturating_add(pairs_len(&computed))
+        .saturating_add(pairs_len(stored));
     let mut out = Vec::with_capacity(alloc, len)?;
     put_pairs(&mut out, &computed)?;
     put_pairs(&mut out, stored)?;
     Ok(out)
 }
 
-/// How many bytes a list of pairs has.
-fn pairs_len(pairs: &[(Bytes, Bytes)]) -> usize {
-    let mut len = 4usize;
-    for pair in pairs {
-        len = len
-            .saturating_add(4)
-            .saturating_add(pair.0.as_slice().len())
-            .saturating_add(pair.1.as_slice().len());
-    }
-    len
-}
-
 /// How many pairs there are, in four bytes, and the pairs.
 fn put_pairs(out: &mut Vec<u8>, pairs: &[(Bytes, Bytes)]) -> Result<(), Memory>
-    requires few { length pairs.now ≤ 65535 }
+    requires few { length pairs.now ≤ most_counted }
     requires short { All IsShortPair pairs.now }
     ensures { OnOk result (out.new.items ≡ out.old.items ++ pairs_text pairs.now) }
 {
@@ -60,7 +54,7 @@ fn put_pairs(out: &mut Vec<u8>, pairs: &[(Bytes, Bytes)]) -> Result<(), Memory>
     put_pair_list(out, pairs)
 }
 
-/// The pairs of the table's name, and of the names and values of the key, in order of their keys.
+/// The pairs of the table, its schema and a key, in order of their keys.
 fn computed_pairs(
     alloc: Global,
     schema: &KeySchema,
@@ -70,23 +64,40 @@ fn computed_pairs(
     requires key { is_lawful_key schema.now (key_view key.now) ≡ true }
     requires names { HasShortNames schema.now table.now }
     ensures pairs { IfOk result (λ pairs. pairs.items ≡ computed_pairs schema.now table.now (key_view key.now)) }
-    ensures few { IfOk result (λ pairs. length pairs.items ≤ 65535) }
+    ensures few { IfOk result (λ pairs. length pairs.items ≤ most_counted) }
+    ensures short { IfOk result (λ pairs. All IsShortPair pairs.items) }
+{
+    let mut pairs = key_pairs(alloc, schema, table, key)?;
+    pairs.sort_by(|a, b| a.0.as_slice().cmp(&b.0.as_slice()))?;
+    Ok(pairs)
+}
+
+/// The pairs of the table, its schema and a key.
+fn key_pairs(
+    alloc: Global,
+    schema: &KeySchema,
+    table: &Text,
+    key: &KeyValue,
+) -> Result<Vec<(Bytes, Bytes)>, Memory>
+    requires key { is_lawful_key schema.now (key_view key.now) ≡ true }
+    requires names { HasShortNames schema.now table.now }
+    ensures pairs { IfOk result (λ pairs. pairs.items ≡ key_pairs schema.now table.now (key_view key.now)) }
+    ensures few { IfOk result (λ pairs. length pairs.items ≤ most_counted) }
     ensures short { IfOk result (λ pairs. All IsShortPair pairs.items) }
 {
     is_normal_number(&key.partition);
+    let partition = &schema.partition.name;
+    let attribute = attribute_pair(alloc, partition, &key.partition)?;
+    let name = name_pair(alloc, b"aws-crypto-partition-name", partition)?;
+    let table = name_pair(alloc, b"aws-crypto-table-name", table)?;
     match (&schema.sort, &key.sort) {
         (Some(sort), Some(value)) => {
             is_normal_number(value);
-            pairs_with_sort(
-                alloc,
-                table,
-                &schema.partition.name,
-                &key.partition,
-                &sort.name,
-                value,
-            )
+            let sort_attribute = attribute_pair(alloc, &sort.name, value)?;
+            let sort_name = name_pair(alloc, b"aws-crypto-sort-name", &sort.name)?;
+            Ok(Vec::from_array(alloc, [attribute, name, table, sort_attribute, sort_name])?)
         }
-        _ => pairs_without_sort(alloc, table, &schema.partition.name, &key.partition),
+        _ => Ok(Vec::from_array(alloc, [attribute, name, table])?),
     }
 }
 
@@ -108,51 +119,6 @@ fn is_normal_number(value: &AttrValue)
     }
 }
 
-fn pairs_without_sort(
-    alloc: Global,
-    table: &Text,
-    partition: &Text,
-    value: &AttrValue,
-) -> Result<Vec<(Bytes, Bytes)>, Memory>
-    requires table { IsShortName table.now }
-    requires partition { IsShortName partition.now }
-    requires value { IsShortValue (view value.now) }
-    ensures pairs { IfOk result (λ pairs. pairs.items ≡ plain_pairs table.now partition.now (view value.now)) }
-    ensures short { IfOk result (λ pairs. All IsShortPair pairs.items) }
-{
-    let attribute = attribute_pair(alloc, partition, value)?;
-    let name = name_pair(alloc, b"aws-crypto-partition-name", partition)?;
-    let table = name_pair(alloc, b"aws-crypto-table-name", table)?;
-    Ok(Vec::from_array(alloc, [attribute, name, table])?)
-}
-
-fn pairs_with_sort(
-    alloc: Global,
-    table: &Text,
-    partition: &Text,
-    value: &AttrValue,
-    sort: &Text,
-    sort_value: &AttrValue,
-) -> Result<Vec<(Bytes, Bytes)>, Memory>
-    requires table { IsShortName table.now }
-    requires partition { IsShortName partition.now }
-    requires value { IsShortValue (view value.now) }
-    requires sort { IsShortName sort.now }
-    requires sort_value { IsShortValue (view sort_value.now) }
-    ensures pairs { IfOk result (λ pairs. pairs.items ≡ sorted_pairs table.now partition.now (view value.now) sort.now (view sort_value.now)) }
-    ensures short { IfOk result (λ pairs. All IsShortPair pairs.items) }
-{
-    let attribute = attribute_pair(alloc, partition, value)?;
-    let sort_attribute = attribute_pair(alloc, sort, sort_value)?;
-    let name = name_pair(alloc, b"aws-crypto-partition-name", partition)?;
-    let sort_name = name_pair(alloc, b"aws-crypto-sort-name", sort)?;
-    let table = name_pair(alloc, b"aws-crypto-table-name", table)?;
-    if sort.as_bytes().cmp(&partition.as_bytes()).is_lt() {
-        return Ok(Vec::from_array(alloc, [sort_attribute, attribute, name, sort_name, table])?);
-    }
-    Ok(Vec::from_array(alloc, [attribute, sort_attribute, name, sort_name, table])?)
-}
-
 /// The name of a key attribute behind a prefix, and the type and canonical bytes of its value.
 fn attribute_pair(alloc: Global, name: &Text, value: &AttrValue) -> Result<(Bytes, Bytes), Memory>
     requires name { IsShortName name.now }
@@ -170,7 +136,7 @@ fn attribute_pair(alloc: Global, name: &Text, value: &AttrValue) -> Result<(Byte
 }
 
 fn name_pair(alloc: Global, key: &[u8], name: &Text) -> Result<(Bytes, Bytes), Memory>
-    requires key { length key.now ≤ 255 }
+    requires key { length key.now ≤ most_named }
     requires name { IsShortName name.now }
     ensures pair { IfOk result (λ pair. pair ≡ (key.now, name.now)) }
     ensures short { IfOk result (λ pair. IsShortPair pair) }

@@ -1,6 +1,8 @@
 ghost use Rattle.std.specs.Prelude.{◌≡◌};
 ghost use Rattle.dbe_frame.specs.Header.{HeaderParts, IsLegend, HasParts};
+ghost use Rattle.dbe_frame.specs.Sizes.{version_1};
 
+use crate::sizes::{COMMITMENT_SIZE, ID_SIZE};
 use crate::{Edks, Pairs};
 use dbe_num::Bytes;
 use std::marker::Model;
@@ -10,11 +12,11 @@ use std::marker::Model;
 /// Contracts see the record of its parts.
 #[derive(Debug, Drop)]
 pub struct Header {
-    message_id: [u8; 32],
+    message_id: [u8; ID_SIZE],
     legend: Bytes,
     context: Pairs,
     edks: Edks,
-    commitment: [u8; 32],
+    commitment: [u8; COMMITMENT_SIZE],
 }
 
 impl Model for Header {
@@ -28,16 +30,16 @@ impl Model for Header {
 }
 
 impl Header {
-    /// The legend has a byte for each signed attribute: `e`, encrypted and signed, or `s`, signed only. Takes no
-    /// memory.
+    /// A header of version 1. The legend has a byte for each signed attribute: `e`, encrypted and signed, or `s`,
+    /// signed only. Takes no memory.
     pub fn new(
-        message_id: [u8; 32],
+        message_id: [u8; ID_SIZE],
         legend: Bytes,
         context: Pairs,
         edks: Edks,
-        commitment: [u8; 32],
+        commitment: [u8; COMMITMENT_SIZE],
     ) -> Header
-        requires { IsLegend legend }
+        requires { IsLegend version_1 legend }
         ensures { result ≡ record { message_id = message_id; legend = legend; context = context; edks = edks; commitment = commitment } }
     {
         let _ = context.as_slice();
@@ -58,7 +60,7 @@ impl Header {
         let _ = &self.legend;
     }
 
-    pub fn message_id(&self) -> &[u8; 32]
+    pub fn message_id(&self) -> &[u8; ID_SIZE]
         ensures { result.now ≡ self.now.message_id }
     {
         &self.message_id
@@ -83,7 +85,7 @@ impl Header {
         &self.edks
     }
 
-    pub fn commitment(&self) -> &[u8; 32]
+    pub fn commitment(&self) -> &[u8; COMMITMENT_SIZE]
         ensures { result.now ≡ self.now.commitment }
     {
         &self.commitment

@@ -11,6 +11,7 @@ mod pairs;
 mod reading;
 mod record;
 mod signed;
+mod sizes;
 mod stop;
 mod writing;
 
@@ -19,14 +20,14 @@ pub use edks::Edks;
 pub use fault::FrameFault;
 pub use footer::read_footer;
 pub use header::Header;
-pub use laws::{canonical_order, fields_keep_rules, one_footer, one_header};
+pub use laws::{
+    canonical_order, commitment_last, context_order, fields_keep_rules, one_footer, one_header,
+};
 pub use pairs::Pairs;
 pub use reading::read;
 pub use record::record_text;
 pub use signed::signed_names;
 pub use writing::write;
 
-#[cfg(test)]
-mod record_tests;
 #[cfg(test)]
 mod tests;

@@ -1,8 +1,10 @@
 ghost use Rattle.std.specs.Prelude.{◌≡◌, ◌≤◌, None, IfOk, IfErr, option_map, length, take, drop};
 ghost use Rattle.dbe_rawring.specs.Edk.{IsShort};
 ghost use Rattle.dbe_frame.specs.Header.{IsLegend, ArePairs, AreEdks, IsHeader, IsHeaderFault, is_version, is_flavour, is_legend_byte, is_edk_count, comes_after};
+ghost use Rattle.dbe_frame.specs.Sizes.{id_size, most_edks, most_counted};
 ghost use Rattle.dbe_frame.specs.Reading.{Gives, any, bytes_at, byte_at, number_at, string_at, many_at, legend_at, key_at, pair_at, pairs_at, context_at, edk_at, edks_at, header_at, all_of};
 
+use crate::sizes::{ENCRYPTED, FLAVOUR, ID_SIZE, MOST_EDKS, SIGNED_ONLY, VERSION};
 use crate::stop::Stop;
 use crate::{Edks, FrameFault, Header, Pairs};
 use dbe_num::Bytes;
@@ -39,10 +41,10 @@ fn all(alloc: Global, bytes: &[u8]) -> Result<Header, Stop>
 fn header_at(alloc: Global, bytes: &[u8]) -> Result<(Header, &[u8]), Stop>
     ensures { Gives (λ x. (x.0, x.1.now)) result (header_at bytes.now) }
 {
-    let (_, rest) = version_at(bytes)?;
+    let (version, rest) = version_at(bytes)?;
     let (_, rest) = flavour_at(rest)?;
     let (message_id, rest) = array_at(rest)?;
-    let (legend, rest) = legend_at(alloc, rest)?;
+    let (legend, rest) = legend_at(alloc, version, rest)?;
     let (context, rest) = context_at(alloc, rest)?;
     let (edks, rest) = edks_at(alloc, rest)?;
     let (commitment, rest) = array_at(rest)?;
@@ -55,7 +57,7 @@ fn version_at(bytes: &[u8]) -> Result<(u8, &[u8]), Stop>
     ensures { Gives (λ x. (x.0, x.1.now)) result (byte_at is_version bytes.now) }
 {
     match bytes {
-        [b, rest @ ..] if *b == 1 => Ok((*b, rest)),
+        [b, rest @ ..] if *b == VERSION => Ok((*b, rest)),
         _ => Err(Stop::Left(bytes.len())),
     }
 }
@@ -65,37 +67,44 @@ fn flavour_at(bytes: &[u8]) -> Result<(u8, &[u8]), Stop>
     ensures { Gives (λ x. (x.0, x.1.now)) result (byte_at is_flavour bytes.now) }
 {
     match bytes {
-        [b, rest @ ..] if *b == 0 => Ok((*b, rest)),
+        [b, rest @ ..] if *b == FLAVOUR => Ok((*b, rest)),
         _ => Err(Stop::Left(bytes.len())),
     }
 }
 
 #[tactic(auto, unfolding(crate::specs::Reading::byte_at))]
-fn legend_byte_at(bytes: &[u8]) -> Result<(u8, &[u8]), Stop>
-    ensures { Gives (λ x. (x.0, x.1.now)) result (byte_at is_legend_byte bytes.now) }
+fn legend_byte_at(version: u8, bytes: &[u8]) -> Result<(u8, &[u8]), Stop>
+    ensures { Gives (λ x. (x.0, x.1.now)) result (byte_at (is_legend_byte version) bytes.now) }
 {
     match bytes {
-        [b, rest @ ..] if *b == b'e' || *b == b's' => Ok((*b, rest)),
+        [b, rest @ ..] if is_legend_byte(version, *b) => Ok((*b, rest)),
         _ => Err(Stop::Left(bytes.len())),
     }
+}
+
+/// Whether a byte may stand in the legend of a version.
+fn is_legend_byte(version: u8, b: u8) -> bool
+    ensures { result ≡ is_legend_byte version b }
+{
+    version == VERSION && (b == ENCRYPTED || b == SIGNED_ONLY)
 }
 
 #[tactic(auto, unfolding(crate::specs::Reading::byte_at))]
 fn edk_count_at(bytes: &[u8]) -> Result<(u8, &[u8]), Stop>
     ensures gives { Gives (λ x. (x.0, x.1.now)) result (byte_at is_edk_count bytes.now) }
-    ensures few { IfOk result (λ x. (1 ≤ x.0) × (x.0 ≤ 8)) }
+    ensures few { IfOk result (λ x. (1 ≤ x.0) × (x.0 ≤ most_edks)) }
 {
     match bytes {
-        [b, rest @ ..] if 1 <= *b && *b <= 8 => Ok((*b, rest)),
+        [b, rest @ ..] if 1 <= *b && *b <= MOST_EDKS => Ok((*b, rest)),
         _ => Err(Stop::Left(bytes.len())),
     }
 }
 
 #[tactic(auto, unfolding(crate::specs::Reading::bytes_at))]
-fn array_at(bytes: &[u8]) -> Result<([u8; 32], &[u8]), Stop>
-    ensures { Gives (λ x. (x.0, x.1.now)) result (bytes_at 32 any bytes.now) }
+fn array_at(bytes: &[u8]) -> Result<([u8; ID_SIZE], &[u8]), Stop>
+    ensures { Gives (λ x. (x.0, x.1.now)) result (bytes_at id_size any bytes.now) }
 {
-    match bytes.split_first_chunk::<32>() {
+    match bytes.split_first_chunk::<ID_SIZE>() {
         Some((array, rest)) => Ok((*array, rest)),
         None => Err(Stop::Left(bytes.len())),
     }
@@ -117,7 +126,7 @@ fn bytes_at(count: usize, bytes: &[u8]) -> Result<(&[u8], &[u8]), Stop>
 #[tactic(auto, unfolding(crate::specs::Reading::number_at))]
 fn number_at(bytes: &[u8]) -> Result<(usize, &[u8]), Stop>
     ensures gives { Gives (λ x. (x.0, x.1.now)) result (number_at bytes.now) }
-    ensures short { IfOk result (λ x. x.0 ≤ 65535) }
+    ensures short { IfOk result (λ x. x.0 ≤ most_counted) }
 {
     let (b, rest) = bytes_at(2, bytes)?;
     let number = u16::from_be_bytes([b[0], b[1]]);
@@ -135,23 +144,28 @@ fn string_at(bytes: &[u8]) -> Result<(&[u8], &[u8]), Stop>
 }
 
 #[tactic(auto, unfolding(crate::specs::Reading::legend_at))]
-fn legend_at(alloc: Global, bytes: &[u8]) -> Result<(Bytes, &[u8]), Stop>
-    ensures gives { Gives (λ x. (x.0, x.1.now)) result (legend_at bytes.now) }
-    ensures legend { IfOk result (λ x. IsLegend x.0) }
+fn legend_at(alloc: Global, version: u8, bytes: &[u8]) -> Result<(Bytes, &[u8]), Stop>
+    ensures gives { Gives (λ x. (x.0, x.1.now)) result (legend_at version bytes.now) }
+    ensures legend { IfOk result (λ x. IsLegend version x.0) }
 {
     let (count, rest) = number_at(bytes)?;
-    let (legend, rest) = legend_bytes_at(alloc, count, rest)?;
+    let (legend, rest) = legend_bytes_at(alloc, version, count, rest)?;
     Ok((Bytes::from_vec(legend), rest))
 }
 
-fn legend_bytes_at(alloc: Global, count: usize, bytes: &[u8]) -> Result<(Vec<u8>, &[u8]), Stop>
-    ensures gives { Gives (λ x. (x.0.items, x.1.now)) result (many_at (byte_at is_legend_byte) count bytes.now) }
-    ensures legend { IfOk result (λ x. count ≤ 65535 → IsLegend x.0.items) }
+fn legend_bytes_at(
+    alloc: Global,
+    version: u8,
+    count: usize,
+    bytes: &[u8],
+) -> Result<(Vec<u8>, &[u8]), Stop>
+    ensures gives { Gives (λ x. (x.0.items, x.1.now)) result (many_at (byte_at (is_legend_byte version)) count bytes.now) }
+    ensures legend { IfOk result (λ x. count ≤ most_counted → IsLegend version x.0.items) }
 {
     let mut legend = Vec::with_capacity(alloc, count.min(bytes.len()))?;
     let mut rest = bytes;
     for _ in 0..count {
-        let (b, after) = legend_byte_at(rest)?;
+        let (b, after) = legend_byte_at(version, rest)?;
         legend.push(b)?;
         rest = after;
     }
@@ -169,7 +183,7 @@ fn context_at(alloc: Global, bytes: &[u8]) -> Result<(Pairs, &[u8]), Stop>
 
 fn pairs_at(alloc: Global, count: usize, bytes: &[u8]) -> Result<(Vec<(Bytes, Bytes)>, &[u8]), Stop>
     ensures gives { Gives (λ x. (x.0.items, x.1.now)) result (pairs_at None count bytes.now) }
-    ensures pairs { IfOk result (λ x. count ≤ 65535 → ArePairs x.0.items) }
+    ensures pairs { IfOk result (λ x. count ≤ most_counted → ArePairs x.0.items) }
 {
     let mut pairs = Vec::with_capacity(alloc, count.min(bytes.len() / 4))?;
     let mut before = None;
@@ -223,7 +237,7 @@ fn key_bytes_at<'a>(
 }
 
 /// Whether a key is greater than the one before it, where there is one.
-fn comes_after(before: Option<&[u8]>, key: &[u8]) -> bool
+pub(crate) fn comes_after(before: Option<&[u8]>, key: &[u8]) -> bool
     ensures { result ≡ comes_after (option_map (λ k. k.now) before.entry) key.now }
 {
     match before {
@@ -258,7 +272,7 @@ fn edks_at(alloc: Global, bytes: &[u8]) -> Result<(Edks, &[u8]), Stop>
 
 fn edk_list_at(alloc: Global, count: u8, bytes: &[u8]) -> Result<(Vec<Edk>, &[u8]), Stop>
     ensures gives { Gives (λ x. (x.0.items, x.1.now)) result (many_at edk_at count bytes.now) }
-    ensures edks { IfOk result (λ x. 1 ≤ count → count ≤ 8 → AreEdks x.0.items) }
+    ensures edks { IfOk result (λ x. 1 ≤ count → count ≤ most_edks → AreEdks x.0.items) }
 {
     let mut edks = Vec::with_capacity(alloc, usize::from(count))?;
     let mut rest = bytes;

@@ -6,6 +6,7 @@ ghost use Rattle.dbe_frame.specs.Signed.{signed_names};
 ghost use Rattle.dbe_frame.specs.Record.{record_text, entries_text, entry_text, legend_word};
 
 use crate::signed_names;
+use crate::sizes::ENCRYPTED;
 use crate::writing::put_bytes;
 use dbe_canon::{canon_len, put_canon, put_path, set_length, type_id};
 use dbe_config::Config;
@@ -93,7 +94,7 @@ fn put_entry(
 fn legend_word(flag: u8) -> &'static [u8]
     ensures { result.now ≡ legend_word flag }
 {
-    if flag == b'e' {
+    if flag == ENCRYPTED {
         b"ENCRYPTED"
     } else {
         b"PLAINTEXT"

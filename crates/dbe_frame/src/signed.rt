@@ -11,7 +11,6 @@ use std::alloc::Global;
 pub fn signed_names(alloc: Global, config: &Config, row: &Item) -> Result<Vec<Text>, Memory>
     ensures { IfOk result (λ names. names.items ≡ signed_names config.now row.now) }
 {
-    row.is_lawful();
     let mut names = signed_among(alloc, config, row)?;
     names.sort_by(|a, b| name_order(a.as_bytes(), b.as_bytes()))?;
     Ok(names)

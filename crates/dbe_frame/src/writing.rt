@@ -3,12 +3,23 @@ ghost use Rattle.std.specs.List.{All, flat_map};
 ghost use Rattle.dbe_rawring.specs.Edk.{IsShort};
 ghost use Rattle.dbe_frame.specs.Context.{short_string, pair_text};
 ghost use Rattle.dbe_frame.specs.Header.{IsHeader, IsShortPair, short_number};
+ghost use Rattle.dbe_frame.specs.Sizes.{most_counted};
 ghost use Rattle.dbe_frame.specs.Writing.{edk_text, context_part, edks_part};
 
+use crate::sizes::{FLAVOUR, VERSION};
 use crate::{Edks, Header, Pairs};
 use dbe_num::{Bytes, Memory};
 use dbe_rawring::Edk;
 use std::alloc::Global;
+
+/// The bytes of the fields of a header whose sizes are fixed.
+const FIXED_BYTES: usize = 71;
+
+/// The bytes of the two lengths of a pair.
+const PAIR_LENGTHS: usize = 4;
+
+/// The bytes of the three lengths of a data key.
+const EDK_LENGTHS: usize = 6;
 
 /// The bytes of a header.
 pub fn write(alloc: Global, header: &Header) -> Result<Vec<u8>, Memory>
@@ -16,7 +27,7 @@ pub fn write(alloc: Global, header: &Header) -> Result<Vec<u8>, Memory>
 {
     header.has_parts();
     let mut out = Vec::with_capacity(alloc, header_len(header))?;
-    put_bytes(&mut out, &[1, 0])?;
+    put_bytes(&mut out, &[VERSION, FLAVOUR])?;
     put_bytes(&mut out, header.message_id())?;
     put_string(&mut out, header.legend())?;
     put_pairs(&mut out, header.context())?;
@@ -25,20 +36,29 @@ pub fn write(alloc: Global, header: &Header) -> Result<Vec<u8>, Memory>
     Ok(out)
 }
 
+/// How many bytes a header has; this only sizes the memory that is taken.
 fn header_len(header: &Header) -> usize {
-    let mut len = 71usize.saturating_add(header.legend().len());
-    for pair in header.context().as_slice() {
-        len = len
-            .saturating_add(4)
-            .saturating_add(pair.0.as_slice().len())
-            .saturating_add(pair.1.as_slice().len());
-    }
+    let mut len = FIXED_BYTES
+        .saturating_add(header.legend().len())
+        .saturating_add(pairs_len(header.context().as_slice()));
     for edk in header.edks().as_slice() {
         len = len
-            .saturating_add(6)
+            .saturating_add(EDK_LENGTHS)
             .saturating_add(edk.provider().len())
             .saturating_add(edk.info().len())
             .saturating_add(edk.ciphertext().len());
+    }
+    len
+}
+
+/// How many bytes pairs have, their count aside.
+pub(crate) fn pairs_len(pairs: &[(Bytes, Bytes)]) -> usize {
+    let mut len = 0usize;
+    for pair in pairs {
+        len = len
+            .saturating_add(PAIR_LENGTHS)
+            .saturating_add(pair.0.as_slice().len())
+            .saturating_add(pair.1.as_slice().len());
     }
     len
 }
@@ -52,7 +72,7 @@ pub(crate) fn put_bytes(out: &mut Vec<u8>, bytes: &[u8]) -> Result<(), Memory>
 
 /// A count or a length in two bytes.
 fn put_number(out: &mut Vec<u8>, number: usize) -> Result<(), Memory>
-    requires { number ≤ 65535 }
+    requires { number ≤ most_counted }
     ensures { OnOk result (out.new.items ≡ out.old.items ++ short_number number) }
 {
     put_bytes(out, &(number as u16).to_be_bytes())

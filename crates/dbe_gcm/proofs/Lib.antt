@@ -3,3 +3,4 @@ pub mod Products
 pub mod Hashes
 pub mod Tags
 pub mod Nibbles
+mod SecondBlock

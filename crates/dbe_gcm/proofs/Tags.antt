@@ -1,5 +1,6 @@
 -- Two tags, byte by byte.
-use Rattle.std.proofs.Common.{inl, inr, ◌≡◌, ℕ, ◌+◌, ◌<◌, List, bit_or, bit_xor, refl, sym, ap, ◌∙◌, arith, length, get_or}
+use Rattle.std.proofs.Common.{inl, inr, ◌≡◌, ℕ, ◌+◌, ◌<◌, List, bit_or, bit_xor, refl, sym, ap, ◌∙◌, arith, length}
+use Rattle.std.proofs.Common.{get_or}
 use Rattle.std.specs.Int.Bits.{xor_assoc, xor_self, xor_zero_r}
 use Rattle.std.proofs.lemmas.Nat.{le_or_l, le_or_r}
 use Rattle.std.proofs.lemmas.Bool.{cases_lt}
@@ -17,7 +18,8 @@ pub record Tells (a b : List ℕ) (n difference : ℕ) : Type 0 where
 pub tells_none : (a b : List ℕ) → Tells a b 0 0
 tells_none a b = record { same = λ h k lt. absurd (omega arith); none = λ h. refl }
 
-pub tells_more : (a b : List ℕ) (n d : ℕ) → Tells a b n d → Tells a b (n + 1) (bit_or d (bit_xor (get_or a n 0) (get_or b n 0)))
+pub tells_more : (a b : List ℕ) (n d : ℕ) → Tells a b n d →
+    Tells a b (n + 1) (bit_or d (bit_xor (get_or a n 0) (get_or b n 0)))
 tells_more a b n d t =
     let x = get_or a n 0 in
     let y = get_or b n 0 in
@@ -33,5 +35,6 @@ tells_more a b n d t =
           rw (old, h n (omega arith)) (xor_self y);
     }
 
-pub same_list : (a b : List ℕ) → length a ≡ 16 → length b ≡ 16 → ((k : ℕ) → k < 16 → get_or a k 0 ≡ get_or b k 0) → a ≡ b
+pub same_list : (a b : List ℕ) → length a ≡ 16 → length b ≡ 16 → ((k : ℕ) → k < 16 → get_or a k 0 ≡ get_or b k 0) →
+    a ≡ b
 same_list a b la lb h = ext_get_or 0 a b (la ∙ sym lb) (λ k lt. h k (omega arith))

@@ -4,12 +4,12 @@
 use Rattle.std.specs.Prelude.{ℕ, List, [], ◌∷◌, ◌++◌, bit_xor, replicate}
 use Rattle.std.specs.Int.{w128, from_be_bytes, to_be_bytes}
 use Rattle.dbe_aes.specs.Cipher.{cipher}
-use Rattle.dbe_aes.specs.Counters.{counter_mode}
+use Rattle.dbe_aes.specs.Counters.{inc32, gctr}
 use Rattle.dbe_gcm.specs.Hash.{ghash, blocks_of, lengths_block}
 
--- the block of the IV and a counter of 32 bits whose last byte is n; J 0 has the counter 1 (7.1, step 2)
-abbrev pub numbered : List ℕ → ℕ → List ℕ
-numbered iv n = iv ++ 0 ∷ 0 ∷ 0 ∷ n ∷ []
+-- J 0: the IV, and 1 as a counter of 32 bits (7.1, step 2)
+abbrev pub j0 : List ℕ → List ℕ
+j0 iv = iv ++ 0 ∷ 0 ∷ 0 ∷ 1 ∷ []
 
 -- H, the enciphered block of zeros (7.1, step 1)
 unfoldable pub hash_key : List ℕ → ℕ
@@ -22,11 +22,11 @@ hash_of h aad text = ghash h (blocks_of aad ++ blocks_of text ++ lengths_block a
 -- the tag of a ciphertext (7.1, step 6)
 unfoldable pub tag_of : List ℕ → List ℕ → List ℕ → List ℕ → List ℕ
 tag_of key iv aad text =
-    to_be_bytes w128 (bit_xor (hash_of (hash_key key) aad text) (from_be_bytes w128 (cipher key (numbered iv 1))))
+    to_be_bytes w128 (bit_xor (hash_of (hash_key key) aad text) (from_be_bytes w128 (cipher key (j0 iv))))
 
--- text to ciphertext and back: the counter stream from the counter 2 on (7.1, step 3; 7.2, step 4)
+-- text to ciphertext and back: the counter stream from the block after J 0 on (7.1, step 3; 7.2, step 4)
 unfoldable pub streamed : List ℕ → List ℕ → List ℕ → List ℕ
-streamed key iv text = counter_mode key (numbered iv 2) text
+streamed key iv text = gctr key (inc32 (j0 iv)) text
 
 -- a ciphertext and its tag
 pub record Sealed : Type 0 where

@@ -1,18 +1,29 @@
 //! Sealing and opening.
 
 ghost use Rattle.std.specs.Prelude.{◌≡◌, ◌<◌, ◌↔◌, IsTrue, Bool, false};
-ghost use Rattle.dbe_gcm.specs.Gcm.{Sealed, gcm, hash_key, numbered, streamed, tag_of};
+ghost use Rattle.dbe_aes.specs.Counters.{inc32};
+ghost use Rattle.dbe_gcm.specs.Gcm.{Sealed, gcm, hash_key, j0, streamed, tag_of};
 
 use crate::hash::hash;
 use dbe_aes::Key256;
 
-// The counter block of the IV whose counter is `n`.
-fn numbered(iv: &[u8; 12], n: u8) -> [u8; 16]
-    ensures { result ≡ numbered iv.now n }
+// The first counter block.
+fn j0(iv: &[u8; 12]) -> [u8; 16]
+    ensures { result ≡ j0 iv.now }
 {
     [
         iv[0], iv[1], iv[2], iv[3], iv[4], iv[5], iv[6], iv[7], iv[8], iv[9], iv[10], iv[11], 0, 0,
-        0, n,
+        0, 1,
+    ]
+}
+
+// The counter block after it.
+fn after_j0(iv: &[u8; 12]) -> [u8; 16]
+    ensures { result ≡ inc32 (j0 iv.now) }
+{
+    [
+        iv[0], iv[1], iv[2], iv[3], iv[4], iv[5], iv[6], iv[7], iv[8], iv[9], iv[10], iv[11], 0, 0,
+        0, 2,
     ]
 }
 
@@ -28,7 +39,7 @@ fn tag_of(key: &Key256, iv: &[u8; 12], aad: &[u8], text: &[u8]) -> [u8; 16]
     ensures { result ≡ tag_of key.now iv.now aad.now text.now }
 {
     let sum = hash(hash_key(key), aad, text);
-    (sum ^ u128::from_be_bytes(key.block(&numbered(iv, 1)))).to_be_bytes()
+    (sum ^ u128::from_be_bytes(key.block(&j0(iv)))).to_be_bytes()
 }
 
 // Whether two tags are the same, all of their bytes looked at.
@@ -49,7 +60,7 @@ pub fn seal_in_place(key: &Key256, iv: &[u8; 12], aad: &[u8], bytes: &mut [u8]) 
     ensures ciphertext { bytes.new ≡ (gcm key.now iv.now aad.now bytes.old).ciphertext }
     ensures tag { result ≡ (gcm key.now iv.now aad.now bytes.old).tag }
 {
-    key.ctr(&numbered(iv, 2), bytes);
+    key.ctr(&after_j0(iv), bytes);
     tag_of(key, iv, aad, bytes)
 }
 
@@ -68,7 +79,7 @@ pub fn open_in_place(
     ensures kept { result ≡ false → bytes.new ≡ bytes.old }
 {
     if is_same(&tag_of(key, iv, aad, bytes), tag) {
-        key.ctr(&numbered(iv, 2), bytes);
+        key.ctr(&after_j0(iv), bytes);
         true
     } else {
         false

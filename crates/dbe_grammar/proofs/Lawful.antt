@@ -3,7 +3,9 @@ use Rattle.std.proofs.Common.{List, sym, subst}
 use Rattle.dbe_tokens.specs.declared.token.Token.{Token}
 use Rattle.dbe_tokens.specs.declared.token.Operand.{Operand}
 use Rattle.dbe_grammar.specs.Form.{Form, some, IsLawful, AreLawful, HaveTwo}
-use Rattle.dbe_grammar.specs.Grammar.{OrList, one_and, or, AndList, one_factor, and, Factor, negated, group, exists, lacks, begins, test, Tail, compare, between, within, tail_form, or_form, or_members, and_form, and_members, factor_form, IsCond}
+use Rattle.dbe_grammar.specs.Grammar.{OrList, one_and, or, AndList, one_factor, and, Factor, negated, group, exists}
+use Rattle.dbe_grammar.specs.Grammar.{lacks, begins, test, Tail, compare, between, within, tail_form, or_form}
+use Rattle.dbe_grammar.specs.Grammar.{or_members, and_form, and_members, factor_form, IsCond}
 
 and_two : (f : Form) (a : AndList) → HaveTwo (some f (and_members a))
 and_two f (one_factor n) = tt

@@ -4,16 +4,19 @@ use denote.Hole.Carrier
 use Rattle.dbe_tokens.specs.declared.token.Op.{Op}
 use Rattle.dbe_tokens.specs.declared.token.Name.{Name}
 use Rattle.dbe_tokens.specs.declared.token.Operand.{Operand}
-use Rattle.dbe_grammar.specs.declared.tree.Tree.{Tree, Compare, Between, In, BeginsWith, Exists, NotExists, Not, And, Or, fold-roll-Tree, roll-Tree}
+use Rattle.dbe_grammar.specs.declared.tree.Tree.{Tree, Compare, Between, In, BeginsWith, Exists, NotExists, Not, And}
+use Rattle.dbe_grammar.specs.declared.tree.Tree.{Or, fold-roll-Tree, roll-Tree}
 use Rattle.dbe_grammar.specs.declared.tree.Tree.TheOpen.{Tree-F}
 use Rattle.dbe_grammar.specs.Form.{Form, some, form_of, members_of, forms_last, form_step}
 use Rattle.dbe_grammar.specs.Form as form
 
-pub members_of-last : (trees : List Tree) (c : Tree) → members_of (trees ++ c ∷ []) ≡ forms_last (members_of trees) (form_of c)
+pub members_of-last : (trees : List Tree) (c : Tree) → members_of (trees ++ c ∷ []) ≡ forms_last (members_of trees)
+    (form_of c)
 members_of-last [] c = refl
 members_of-last (d ∷ trees) c = ap (λ x. some (form_of d) x) (members_of-last trees c)
 
-pub form_of-Compare : (left : Operand) (op : Op) (right : Operand) → form_of (Compare left op right) ≡ form.compare left op right
+pub form_of-Compare : (left : Operand) (op : Op) (right : Operand) →
+    form_of (Compare left op right) ≡ form.compare left op right
 unfolding roll-Tree denote.Hole.Carrier.roll
 form_of-Compare left op right = fold-roll-Tree Form form_step (Tree-F.Compare left op right)
 

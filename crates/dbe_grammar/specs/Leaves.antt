@@ -5,7 +5,8 @@ use Rattle.dbe_tokens.specs.declared.token.Token.{Token}
 use Rattle.dbe_tokens.specs.declared.token.Token.TheVariants as t
 use Rattle.dbe_tokens.specs.declared.token.Operand.{Operand}
 use Rattle.dbe_tokens.specs.declared.token.Operand.TheVariants as o
-use Rattle.dbe_grammar.specs.Form.{Form, Forms, compare, between, within, begins, exists, lacks, not, and, or, none, some}
+use Rattle.dbe_grammar.specs.Form.{Form, Forms, compare, between, within, begins, exists, lacks, not, and, or, none}
+use Rattle.dbe_grammar.specs.Form.{some}
 
 abbrev pub token_passes : (Operand → Bool) → Token → Bool
 token_passes test (t.Operand a) = test a

@@ -7,7 +7,8 @@ use Rattle.dbe_tokens.specs.declared.token.Operand.TheVariants as o
 use Rattle.dbe_tokens.specs.declared.token.Name.{Name}
 use Rattle.dbe_tokens.specs.declared.token.Name.TheVariants as n
 use Rattle.dbe_tokens.specs.declared.token.Span.{Span}
-use Rattle.dbe_grammar.specs.Form.{Form, Forms, compare, between, within, begins, exists, lacks, not, and, or, none, some}
+use Rattle.dbe_grammar.specs.Form.{Form, Forms, compare, between, within, begins, exists, lacks, not, and, or, none}
+use Rattle.dbe_grammar.specs.Form.{some}
 
 abbrev pub move_name : (Span → Span) → Name → Name
 move_name place (n.Word span) = n.Word (place span)
@@ -24,7 +25,8 @@ move_token place token = token
 abbrev mutual
   pub move_form : (Span → Span) → Form → Form
   move_form place (compare left op right) = compare (move_operand place left) op (move_operand place right)
-  move_form place (between value low high) = between (move_operand place value) (move_operand place low) (move_operand place high)
+  move_form place (between value low high) = between (move_operand place value) (move_operand place low)
+      (move_operand place high)
   move_form place (within value list) = within (move_operand place value) (map (move_operand place) list)
   move_form place (begins name front) = begins (move_name place name) (move_operand place front)
   move_form place (exists name) = exists (move_name place name)

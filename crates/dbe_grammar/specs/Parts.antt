@@ -5,7 +5,8 @@ use Rattle.dbe_tokens.specs.declared.token.Token.TheVariants as t
 use Rattle.dbe_tokens.specs.declared.token.Name.{Name}
 use Rattle.dbe_tokens.specs.declared.token.Operand.{Operand}
 use Rattle.dbe_grammar.specs.Form.{Form}
-use Rattle.dbe_grammar.specs.Grammar.{OrList, AndList, Factor, Tail, tail_text, tail_form, name_text, pair_text, or_text, and_text, factor_text, or_form, and_form, factor_form}
+use Rattle.dbe_grammar.specs.Grammar.{OrList, AndList, Factor, Tail, tail_text, tail_form, name_text, pair_text}
+use Rattle.dbe_grammar.specs.Grammar.{or_text, and_text, factor_text, or_form, and_form, factor_form}
 use Rattle.dbe_grammar.specs.declared.fault.Stop.{Stop}
 use Rattle.dbe_grammar.specs.declared.fault.Stop.TheVariants as s
 
@@ -24,7 +25,8 @@ abbrev pub AfterOr : List Token → Type 0
 AfterOr others = (next_of others ≢ Some t.And) × (next_of others ≢ Some t.Or)
 
 -- The tokens are a part, and then others.
-pub record IsFront (Part : Type 0) (text : Part → List Token → List Token) (form : Part → Form) (After : List Token → Type 0) (tokens : List Token) (found : Form) (others : List Token) : Type 0 where
+pub record IsFront (Part : Type 0) (text : Part → List Token → List Token) (form : Part → Form) (After : List Token →
+    Type 0) (tokens : List Token) (found : Form) (others : List Token) : Type 0 where
   pub parts : Part
   pub spelled : tokens ≡ text parts others
   pub means : found ≡ form parts
@@ -32,7 +34,8 @@ pub record IsFront (Part : Type 0) (text : Part → List Token → List Token) (
 
 -- So many tokens are left where the first stands that fits no part. Those before it begin a part. With it, or with
 -- the end in its place, they begin none, and no part with something after it is at their front.
-pub record IsStuck (Part : Type 0) (text : Part → List Token → List Token) (After : List Token → Type 0) (tokens : List Token) (left : ℕ) : Type 0 where
+pub record IsStuck (Part : Type 0) (text : Part → List Token → List Token) (After : List Token →
+    Type 0) (tokens : List Token) (left : ℕ) : Type 0 where
   pub front : List Token
   pub back : List Token
   pub whole : tokens ≡ front ++ back
@@ -40,7 +43,8 @@ pub record IsStuck (Part : Type 0) (text : Part → List Token → List Token) (
   pub parts : Part
   pub missing : List Token
   pub begins : front ++ missing ≡ text parts []
-  pub none : (part : Part) (more others : List Token) → next_of more ≡ next_of back → front ++ more ≡ text part others → After others → ⊥
+  pub none : (part : Part) (more others : List Token) → next_of more ≡ next_of back →
+      front ++ more ≡ text part others → After others → ⊥
 
 abbrev pub Stops : (List Token → ℕ → Type 0) → List Token → Stop → Type 0
 Stops Stuck tokens s.Memory = ⊤

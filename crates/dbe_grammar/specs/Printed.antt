@@ -4,7 +4,8 @@ use Rattle.dbe_tokens.specs.declared.token.Token.{Token}
 use Rattle.dbe_tokens.specs.declared.token.Token.TheVariants as t
 use Rattle.dbe_tokens.specs.declared.token.Operand.{Operand}
 use Rattle.dbe_grammar.specs.Grammar.{comma_text, name_text, pair_text}
-use Rattle.dbe_grammar.specs.Form.{Form, Forms, compare, between, within, begins, exists, lacks, not, and, or, none, some}
+use Rattle.dbe_grammar.specs.Form.{Form, Forms, compare, between, within, begins, exists, lacks, not, and, or, none}
+use Rattle.dbe_grammar.specs.Form.{some}
 
 -- operands with commas between them
 abbrev pub list_printed : List Operand → List Token → List Token

@@ -12,7 +12,7 @@ mod tree;
 pub use fault::ParseFault;
 pub use laws::{is_lawful, leaves, one_condition, one_place, places_move, printed_is_read};
 pub use parser::parse;
-pub use printing::print;
+pub use printing::tokens_of;
 pub use tree::Tree;
 
 #[cfg(test)]

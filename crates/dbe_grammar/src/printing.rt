@@ -1,4 +1,4 @@
-ghost use Rattle.std.specs.Prelude.{◌≡◌, ◌++◌, [], ◌∷◌, OnOk};
+ghost use Rattle.std.specs.Prelude.{◌≡◌, ◌++◌, [], ◌∷◌, IfOk, OnOk};
 ghost use Rattle.dbe_tokens.specs.declared.token.Token.TheVariants as t;
 ghost use Rattle.dbe_grammar.specs.Form.{form_of, members_of};
 ghost use Rattle.dbe_grammar.specs.Grammar.{name_text, pair_text};
@@ -8,13 +8,25 @@ use crate::tree::Tree;
 use dbe_num::Memory;
 use dbe_tokens::{Name, Operand, Token};
 use sqlite_items::Items;
+use std::alloc::Global;
 
-/// Prints a condition's tokens at the end of `out`.
+/// The tokens that a condition is printed as.
 ///
 /// What NOT stands before and a member of And are in parentheses where they are And or Or, a member of Or where it is
 /// Or, and nothing else is.
+///
+/// `Memory`: memory ran out.
+pub fn tokens_of(alloc: Global, tree: &Tree) -> Result<Items<Token>, Memory>
+    ensures { IfOk result (λ tokens. tokens ≡ printed (form_of tree.now) []) }
+{
+    let mut tokens = Items::new(alloc);
+    print(&mut tokens, tree)?;
+    Ok(tokens)
+}
+
+/// Prints a condition's tokens at the end of `out`.
 #[cycle(print)]
-pub fn print(out: &mut Items<Token>, tree: &Tree) -> Result<(), Memory>
+fn print(out: &mut Items<Token>, tree: &Tree) -> Result<(), Memory>
     ensures { OnOk result (out.new ≡ out.old ++ printed (form_of tree.now) []) }
 {
     match tree {

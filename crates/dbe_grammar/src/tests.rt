@@ -1,6 +1,5 @@
 use super::*;
 use dbe_tokens::{Name, Op, Operand, Span, Token, cut};
-use sqlite_items::Items;
 use std::alloc::Global;
 use std::test::Fail;
 
@@ -193,9 +192,7 @@ fn each_changed_token_has_its_place(rt: HostRuntime) -> Result<(), Fail> {
 /// The kinds of the tokens that are printed for a condition.
 fn reprinted(alloc: Global, text: &[u8]) -> Result<Vec<u8>, Fail> {
     let tree = parse(alloc, cut(alloc, text)?.tokens.as_slice())?;
-    let mut out = Items::new(alloc);
-    print(&mut out, &tree)?;
-    kinds(alloc, out.as_slice())
+    kinds(alloc, tokens_of(alloc, &tree)?.as_slice())
 }
 
 fn kinds(alloc: Global, tokens: &[Token]) -> Result<Vec<u8>, Fail> {

@@ -7,7 +7,8 @@ use Rattle.dbe_io.specs.declared.held.Held.TheInside.{Inside}
 abbrev pub held_bytes : Inside → List ℕ
 held_bytes h = h.partial.items ++ slice_range h.block.items h.start h.end
 
--- What is always so of the inside: the part of the block that is held lies within it, and no newline stands in the bytes of earlier blocks.
+-- What is always so of the inside: the part of the block that is held lies within it, and no newline stands in the
+-- bytes of earlier blocks.
 pub record IsHeld (h : Inside) : Type 0 where
   pub order : h.start ≤ h.end
   pub within : h.end ≤ length h.block.items

@@ -1,4 +1,5 @@
 pub mod Causes
+pub mod Faults
 pub mod Prefix
 pub mod Lines
 pub mod Reading

@@ -30,7 +30,8 @@ first_piece (b ∷ bytes) = if b == 10 then [] else b ∷ first_piece bytes
 abbrev pub HasNone : ℕ → List ℕ → Type 0
 HasNone b bytes = EachIndex bytes (λ k. slice_index bytes k ≢ b)
 
--- Of bytes the first `most` lie within the reader's total. The line at their front has more than `limit` bytes within them.
+-- Of bytes the first `most` lie within the reader's total. The line at their front has more than `limit` bytes within
+-- them.
 abbrev pub IsTooLong : ℕ → ℕ → List ℕ → Type 0
 IsTooLong limit most bytes = (limit < length (first_piece bytes)) × (limit < most)
 

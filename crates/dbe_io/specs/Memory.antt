@@ -1,6 +1,12 @@
--- What contracts see of a source and a sink in memory (this project's own).
+-- What contracts see of a plan of failures, and of a source and a sink in memory (this project's own).
 use Rattle.std.specs.Prelude.{ℕ, ◌==◌, ◌+◌, ◌-◌, ◌^◌, min, Bool, List, if◌then◌else◌}
 use Rattle.std.specs.List.{list_any}
+
+-- calls of which some fail by a plan
+pub record FailurePlanState : Type 0 where
+  pub calls : ℕ  -- how many calls were made
+  pub fails : List ℕ  -- which calls fail, from 1
+  pub faults : ℕ  -- how many have failed
 
 -- a source in memory
 pub record SourceInMemory : Type 0 where

@@ -1,6 +1,7 @@
-ghost use Rattle.std.specs.Prelude.{◌≡◌, ◌≢◌, ◌≤◌, ◌<◌, ◌++◌, ◌∷◌, ◌⊎◌, [], length, take, vec_len, IfOk, IfErr, OnOk, OnErr, IsErrOf, MatchOption};
+ghost use Rattle.std.specs.Prelude.{◌≡◌, ◌≢◌, ◌≤◌, ◌<◌, ◌++◌, ◌∷◌, ◌⊎◌, [], length, take, vec_len, IfOk, IfErr, OnOk, OnErr, is_err, MatchOption};
 ghost use Rattle.std.specs.Io.KnownBytes.{Keeps, Consumes, IsAtEnd};
-ghost use Rattle.dbe_io.specs.Causes.{HasCause, Rose};
+ghost use Rattle.dbe_io.specs.Causes.{HasCause};
+ghost use Rattle.dbe_io.specs.Faults.{is_read};
 ghost use Rattle.dbe_io.specs.Lines.{first_piece};
 ghost use Rattle.dbe_io.specs.Steps.{EndsAt, Gave};
 
@@ -107,8 +108,7 @@ impl Held {
         ensures most { IfOk result (λ count. count ≤ most) }
         ensures same { OnErr result (self.new ≡ self.old) }
         ensures kept { OnErr result (Keeps (S.left source.old) (S.left source.new)) }
-        ensures later { S.faults source.old ≤ S.faults source.new }
-        ensures read { IsErrOf result LineFault.Read → Rose (S.faults source.old) (S.faults source.new) }
+        ensures cause { HasCause (is_read result) (S.faults source.old) (S.faults source.new) }
         ensures causes { IfErr result (λ fault. (fault ≡ LineFault.Memory) ⊎ (fault ≡ LineFault.Read)) }
     {
         if self
@@ -158,7 +158,7 @@ fn fill<S: Source>(block: &mut [u8], most: usize, source: &mut S) -> Result<usiz
     ensures bytes { IfOk result (λ count. Consumes (S.left source.old) (S.left source.new) (take count block.new)) }
     ensures end { IfOk result (λ count. count ≡ 0 → IsAtEnd (S.left source.new)) }
     ensures kept { OnErr result (Keeps (S.left source.old) (S.left source.new)) }
-    ensures cause { HasCause (S.faults source.old) (S.faults source.new) result }
+    ensures cause { HasCause (is_err result) (S.faults source.old) (S.faults source.new) }
 {
     let room = block.len().min(most);
     source.read(&mut block[..room])

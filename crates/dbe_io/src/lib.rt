@@ -2,6 +2,7 @@
 #![tactic(auto)]
 
 mod failed;
+mod failure_plan;
 mod file_source;
 mod held;
 pub mod laws;
@@ -14,6 +15,7 @@ mod std_sink;
 mod std_source;
 
 pub use failed::Failed;
+pub use failure_plan::FailurePlan;
 pub use file_source::FileSource;
 pub use lines::{LineFault, LineReader};
 pub use mem_sink::MemSink;

@@ -1,8 +1,9 @@
-ghost use Rattle.std.specs.Prelude.{◌≡◌, ◌≢◌, ◌≤◌, ◌<◌, ◌⊎◌, ◌++◌, ◌∷◌, [], length, true, false, Ok, IfOk, IfErr, OnOk, OnErr, OnSome, IfSome, IfNone, IsErrOf, Some, None, MatchOption};
+ghost use Rattle.std.specs.Prelude.{◌≡◌, ◌≢◌, ◌≤◌, ◌+◌, ◌<◌, ◌⊎◌, ◌++◌, ◌∷◌, [], length, true, false, Ok, IfOk, IfErr, OnOk, OnErr, OnSome, IfSome, IfNone, Some, None, MatchOption};
 ghost use Rattle.std.specs.Io.KnownBytes.{IsAtEnd, Keeps};
-ghost use Rattle.dbe_io.specs.Causes.{Rose};
+ghost use Rattle.dbe_io.specs.Causes.{HasCause};
+ghost use Rattle.dbe_io.specs.Faults.{is_read};
 ghost use Rattle.dbe_io.specs.Lines.{first_piece, HasNone};
-ghost use Rattle.dbe_io.specs.Reading.{NeedsNoBytes, Given, IsLineReaderState, Stops, IsCause, budget, most_of};
+ghost use Rattle.dbe_io.specs.Reading.{NeedsNoBytes, Given, IsLineReaderState, Stops, IsCause, fails_to_read, budget, most_of};
 ghost use Rattle.dbe_io.specs.Steps.{IsLineAt, IsOpen, Took, Refused, reads_left};
 
 use crate::Source;
@@ -75,13 +76,13 @@ impl LineReader {
     /// and not again at its end or after a fault.
     ///
     /// Each fault has the cause that `LineFault` names. What was taken of the source stays held then,
-    /// and each later call answers the same fault, `Memory` too.
+    /// and each later call answers the same fault, `Memory` too. The source's `faults` rises where
+    /// `Read` is answered for the first time, and in no other case.
     pub fn next<S: Source>(&mut self, source: &mut S) -> Result<Option<Vec<u8>>, LineFault>
         ensures line { IfOk result (Given self.old self.new (S.left source.old) (S.left source.new)) }
         ensures stop { IfErr result (Stops self.old self.new (S.left source.old) (S.left source.new)) }
         ensures shrinks { IfOk result (λ line. OnSome line (budget self.new < budget self.old)) }
-        ensures later { S.faults source.old ≤ S.faults source.new }
-        ensures read { IsErrOf result LineFault.Read → (self.old.fault ≡ Some LineFault.Read) ⊎ Rose (S.faults source.old) (S.faults source.new) }
+        ensures cause { HasCause (fails_to_read self.old result) (S.faults source.old) (S.faults source.new) }
         ensures ended { self.old.ended ≡ true → (result ≡ Ok None) × (self.new ≡ self.old) }
         ensures unasked { NeedsNoBytes self.old → source.new ≡ source.old }
         ensures within { IsLineReaderState self.new }
@@ -108,8 +109,7 @@ impl LineReader {
         ensures line { IfOk result (Given self.old self.new (S.left source.old) (S.left source.new)) }
         ensures refused { IfErr result (Refused self.old self.new (S.left source.old) (S.left source.new)) }
         ensures shrinks { IfOk result (λ line. OnSome line (budget self.new < budget self.old)) }
-        ensures later { S.faults source.old ≤ S.faults source.new }
-        ensures read { IsErrOf result LineFault.Read → Rose (S.faults source.old) (S.faults source.new) }
+        ensures cause { HasCause (is_read result) (S.faults source.old) (S.faults source.new) }
         ensures unasked { ¬ HasNone 10 self.old.held → source.new ≡ source.old }
     {
         'pieces: loop {
@@ -128,7 +128,8 @@ impl LineReader {
     fn newline(&self) -> Result<Option<usize>, LineFault>
         ensures found { IfOk result (λ place. MatchOption place (IsOpen self.now) (IsLineAt self.now)) }
         ensures cause { IfErr result (IsCause self.now.limit (most_of self.now) self.now.held) }
-        ensures not_read { IsErrOf result LineFault.Read → ⊥ }
+        ensures not_read { is_read result ≡ false }
+        ensures few { length self.now.held ≤ self.now.limit + 1 }
     {
         let most = self.total - self.given;
         let place = self.held.newline();
@@ -193,8 +194,7 @@ impl LineReader {
         ensures fewer { IfOk result (λ end. end ≡ false → reads_left self.new < reads_left self.old) }
         ensures same { OnErr result (self.new ≡ self.old) }
         ensures kept { OnErr result (Keeps (S.left source.old) (S.left source.new)) }
-        ensures later { S.faults source.old ≤ S.faults source.new }
-        ensures read { IsErrOf result LineFault.Read → Rose (S.faults source.old) (S.faults source.new) }
+        ensures cause { HasCause (is_read result) (S.faults source.old) (S.faults source.new) }
         ensures causes { IfErr result (λ fault. (fault ≡ LineFault.Memory) ⊎ (fault ≡ LineFault.Read)) }
     {
         let held = self.held.len();

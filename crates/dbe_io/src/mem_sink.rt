@@ -3,7 +3,7 @@ ghost use Rattle.dbe_io.specs.Causes.{HasCause, TookNothing};
 ghost use Rattle.dbe_io.specs.Memory.{counted, fails_at, one_more};
 ghost use Rattle.dbe_io.specs.Prefix.{Takes};
 
-use crate::{Failed, Sink};
+use crate::{Failed, FailurePlan, Sink};
 use dbe_num::Memory;
 use std::alloc::Global;
 use std::marker::Model;
@@ -16,9 +16,7 @@ pub struct MemSink {
     bytes: Vec<u8>,
     room: usize,
     most: usize,
-    calls: u64,
-    fails: Vec<u64>,
-    faults: u64,
+    plan: FailurePlan,
     idle: u64,
     finished: bool,
 }
@@ -30,7 +28,7 @@ impl Model for MemSink {
 
     ghost use Rattle.std.specs.Prelude.{◌≤◌, vec_len, vec_capacity};
 
-    ghost view = { λ s. record { written = s.bytes.items; room = s.room; most = s.most; calls = s.calls; fails = s.fails.items; faults = s.faults; idle = s.idle; finished = s.finished } };
+    ghost view = { λ s. record { written = s.bytes.items; room = s.room; most = s.most; calls = s.plan.calls; fails = s.plan.fails; faults = s.plan.faults; idle = s.idle; finished = s.finished } };
 
     ghost invariant = { λ s. (vec_len s.bytes ≤ s.room) × (s.room ≤ vec_capacity s.bytes) };
 }
@@ -62,9 +60,7 @@ impl MemSink {
             bytes: Vec::with_capacity(alloc, room)?,
             room,
             most,
-            calls: 0,
-            fails,
-            faults: 0,
+            plan: FailurePlan::new(fails),
             idle: 0,
             finished: false,
         })
@@ -90,7 +86,7 @@ impl Sink for MemSink {
     fn write(&mut self, piece: &[u8]) -> Result<usize, Failed>
         ensures bound { IfOk result (λ n. n ≤ length piece.now) }
         ensures bytes { Takes (Some self.old.written) (Some self.new.written) result piece.now }
-        ensures cause { HasCause self.old.faults self.new.faults result }
+        ensures cause { HasCause (is_err result) self.old.faults self.new.faults }
         ensures idle { TookNothing self.old.idle self.new.idle result (length piece.now) }
         ensures unfinished { self.new.finished ≡ false }
         ensures calls { self.new.calls ≡ one_more self.old.calls }
@@ -101,9 +97,7 @@ impl Sink for MemSink {
         ensures count { IfOk result (λ n. n ≡ min (min (length piece.now) self.old.most) (self.old.room - length self.old.written)) }
     {
         self.finished = false;
-        self.calls = self.calls.saturating_add(1);
-        if self.fails.contains(&self.calls) {
-            self.faults = self.faults.saturating_add(1);
+        if self.plan.count_call() {
             return Err(Failed);
         }
         let spare = self.room - self.bytes.len();
@@ -119,7 +113,7 @@ impl Sink for MemSink {
 
     fn finish(&mut self) -> Result<(), Failed>
         ensures written { self.new.written ≡ self.old.written }
-        ensures cause { HasCause self.old.faults self.new.faults result }
+        ensures cause { HasCause (is_err result) self.old.faults self.new.faults }
         ensures idle { self.new.idle ≡ self.old.idle }
         ensures finished { self.new.finished ≡ is_ok result }
         ensures calls { self.new.calls ≡ one_more self.old.calls }
@@ -127,10 +121,8 @@ impl Sink for MemSink {
         ensures same { self.new ≡ record self.old { calls = self.new.calls; faults = self.new.faults; finished = self.new.finished } }
         ensures faults { self.new.faults ≡ counted (is_err result) self.old.faults }
     {
-        self.calls = self.calls.saturating_add(1);
-        self.finished = !self.fails.contains(&self.calls);
+        self.finished = !self.plan.count_call();
         if !self.finished {
-            self.faults = self.faults.saturating_add(1);
             return Err(Failed);
         }
         Ok(())

@@ -4,7 +4,7 @@ ghost use Rattle.std.specs.Io.KnownBytes.{ReadConsumes};
 ghost use Rattle.dbe_io.specs.Causes.{HasCause};
 ghost use Rattle.dbe_io.specs.Memory.{counted, fails_at, one_more};
 
-use crate::{Failed, Source};
+use crate::{Failed, FailurePlan, Source};
 use std::marker::Model;
 
 /// A source in memory, whose calls fail by a plan.
@@ -15,9 +15,7 @@ pub struct MemSource {
     bytes: Vec<u8>,
     at: usize,
     most: usize,
-    calls: u64,
-    fails: Vec<u64>,
-    faults: u64,
+    plan: FailurePlan,
 }
 
 impl Model for MemSource {
@@ -27,7 +25,7 @@ impl Model for MemSource {
 
     ghost use Rattle.std.specs.Prelude.{◌<◌, ◌≤◌, drop, length};
 
-    ghost view = { λ s. record { left = drop s.at s.bytes.items; most = s.most; calls = s.calls; fails = s.fails.items; faults = s.faults } };
+    ghost view = { λ s. record { left = drop s.at s.bytes.items; most = s.most; calls = s.plan.calls; fails = s.plan.fails; faults = s.plan.faults } };
 
     ghost invariant = { λ s. (s.at ≤ length s.bytes.items) × (0 < s.most) };
 }
@@ -52,9 +50,7 @@ impl MemSource {
             bytes,
             at: 0,
             most,
-            calls: 0,
-            fails,
-            faults: 0,
+            plan: FailurePlan::new(fails),
         }
     }
 
@@ -74,16 +70,14 @@ impl Source for MemSource {
     fn read(&mut self, out: &mut [u8]) -> Result<usize, Failed>
         ensures bound { ReadsAtMost result out.new }
         ensures bytes { ReadConsumes (Some self.old.left) (Some self.new.left) result out.new }
-        ensures cause { HasCause self.old.faults self.new.faults result }
+        ensures cause { HasCause (is_err result) self.old.faults self.new.faults }
         ensures calls { self.new.calls ≡ one_more self.old.calls }
         ensures planned { is_err result ≡ fails_at self.old.fails self.new.calls }
         ensures same { self.new ≡ record self.old { left = self.new.left; calls = self.new.calls; faults = self.new.faults } }
         ensures faults { self.new.faults ≡ counted (is_err result) self.old.faults }
         ensures count { IfOk result (λ n. n ≡ min (min (length self.old.left) (length out.new)) self.old.most) }
     {
-        self.calls = self.calls.saturating_add(1);
-        if self.fails.contains(&self.calls) {
-            self.faults = self.faults.saturating_add(1);
+        if self.plan.count_call() {
             return Err(Failed);
         }
         let count = copy_front(&self.bytes[self.at..], self.most, out);

@@ -1,7 +1,8 @@
-ghost use Rattle.std.specs.Prelude.{◌≡◌, ◌≤◌, ◌<◌, List, ℕ, Bool, false, length, is_ok, IsOk, IfOk, OnOk, IsErrOf};
+ghost use Rattle.std.specs.Prelude.{◌≡◌, ◌≤◌, ◌<◌, List, ℕ, Bool, false, length, is_ok, is_err, IsOk, IfOk, OnOk};
 ghost use Rattle.std.specs.Io.KnownBytes.{Appends};
 ghost use Rattle.std.specs.declared.option.Option.{Option};
-ghost use Rattle.dbe_io.specs.Causes.{HasCause, Rose, TookNothing};
+ghost use Rattle.dbe_io.specs.Causes.{HasCause, TookNothing};
+ghost use Rattle.dbe_io.specs.Faults.{is_failed, is_idle};
 ghost use Rattle.dbe_io.specs.Prefix.{AppendsPrefix, Takes};
 
 use crate::Failed;
@@ -23,26 +24,26 @@ pub trait Sink {
     /// Whether the last call was a `finish` that was Ok.
     ghost finished: { Self → Bool };
 
-    /// Takes a front of the piece and answers how many bytes that is, from none to all of them. The
+    /// Takes a prefix of the piece and answers how many bytes that is, from none to all of them. The
     /// sink is not finished then. `idle` rises by one where it takes none of a piece that has bytes,
     /// and in no other case.
     ///
-    /// `Failed`: the sink failed in this call, which `faults` counts. A front of the piece may be
-    /// written then too.
+    /// `Failed`: the sink failed in this call. `faults` rises then, and in no other case. A prefix of
+    /// the piece may be written then too.
     fn write(&mut self, piece: &[u8]) -> Result<usize, Failed>
         ensures bound { IfOk result (λ n. n ≤ length piece.now) }
         ensures bytes { Takes (written self.old) (written self.new) result piece.now }
-        ensures cause { HasCause (faults self.old) (faults self.new) result }
+        ensures cause { HasCause (is_err result) (faults self.old) (faults self.new) }
         ensures idle { TookNothing (idle self.old) (idle self.new) result (length piece.now) }
         ensures unfinished { finished self.new ≡ false };
 
     /// Hands on all that was written. The bytes that are told and `idle` stay as they were.
     ///
-    /// `Failed`: the sink failed in this call, which `faults` counts. The sink is finished where the
-    /// call is Ok, and only there.
+    /// `Failed`: the sink failed in this call. `faults` rises then, and in no other case. The sink is
+    /// finished where the call is Ok, and only there.
     fn finish(&mut self) -> Result<(), Failed>
         ensures written { written self.new ≡ written self.old }
-        ensures cause { HasCause (faults self.old) (faults self.new) result }
+        ensures cause { HasCause (is_err result) (faults self.old) (faults self.new) }
         ensures idle { idle self.new ≡ idle self.old }
         ensures finished { finished self.new ≡ is_ok result };
 }
@@ -59,16 +60,14 @@ pub enum WriteFault {
 /// Writes all the bytes, in as many pieces as the sink takes them. Takes no memory. Where there are no
 /// bytes it asks the sink nothing and is Ok; else the sink is not finished from then on.
 ///
-/// Where it answers a fault, a front of the bytes was written, which may be none or all of them.
-/// `Failed`: the sink failed. `TookNothing`: a write took nothing; the sink's `idle` rises there alone.
+/// Where it answers a fault, a prefix of the bytes was written, which may be none or all of them.
+/// `Failed`: a write failed. The sink's `faults` rises then, and in no other case.
+/// `TookNothing`: a write took nothing. The sink's `idle` rises then, and in no other case.
 pub fn write_all<O: Sink>(sink: &mut O, bytes: &[u8]) -> Result<(), WriteFault>
     ensures ok { OnOk result (Appends (O.written sink.old) (O.written sink.new) bytes.now) }
     ensures prefix { AppendsPrefix (O.written sink.old) (O.written sink.new) bytes.now }
-    ensures later { O.faults sink.old ≤ O.faults sink.new }
-    ensures idle_later { O.idle sink.old ≤ O.idle sink.new }
-    ensures idle { ¬ IsErrOf result WriteFault.TookNothing → O.idle sink.new ≡ O.idle sink.old }
-    ensures failed { IsErrOf result WriteFault.Failed → Rose (O.faults sink.old) (O.faults sink.new) }
-    ensures took_nothing { IsErrOf result WriteFault.TookNothing → Rose (O.idle sink.old) (O.idle sink.new) }
+    ensures cause { HasCause (is_failed result) (O.faults sink.old) (O.faults sink.new) }
+    ensures idle { HasCause (is_idle result) (O.idle sink.old) (O.idle sink.new) }
     ensures unfinished { 0 < length bytes.now → O.finished sink.new ≡ false }
     ensures no_bytes { length bytes.now ≡ 0 → IsOk result × (sink.new ≡ sink.old) }
 {

@@ -1,4 +1,4 @@
-ghost use Rattle.std.specs.Prelude.{List, ℕ};
+ghost use Rattle.std.specs.Prelude.{List, ℕ, is_err};
 ghost use Rattle.std.specs.Io.{ReadsAtMost};
 ghost use Rattle.std.specs.Io.KnownBytes.{ReadConsumes};
 ghost use Rattle.std.specs.declared.option.Option.{Option};
@@ -19,10 +19,10 @@ pub trait Source {
     /// Moves the next bytes to the front of `out` and answers how many, at most as many as `out` has
     /// room for. None into an `out` with room means that no bytes are left.
     ///
-    /// `Failed`: the source failed in this call, which `faults` counts. The bytes that are told stay
-    /// as they were.
+    /// `Failed`: the source failed in this call. `faults` rises then, and in no other case. The bytes
+    /// that are told stay as they were.
     fn read(&mut self, out: &mut [u8]) -> Result<usize, Failed>
         ensures bound { ReadsAtMost result out.new }
         ensures bytes { ReadConsumes (left self.old) (left self.new) result out.new }
-        ensures cause { HasCause (faults self.old) (faults self.new) result };
+        ensures cause { HasCause (is_err result) (faults self.old) (faults self.new) };
 }

@@ -1,6 +1,8 @@
--- Which items may be stored (Amazon DynamoDB Developer Guide, "Service, account, and table quotas": 400 KB an item; how a size is
+-- Which items may be stored (Amazon DynamoDB Developer Guide, "Service, account, and table quotas": 400 KB an item;
+-- how a size is
 -- counted and the other rules are this project's own).
-use Rattle.std.specs.Prelude.{ℕ, ◌+◌, Bool, List, [], ◌∷◌, length, nat_lt, is_none, sum_by, Option, Some, None, ⊤, if◌then◌else◌}
+use Rattle.std.specs.Prelude.{ℕ, ◌+◌, Bool, List, [], ◌∷◌, length, nat_lt, is_none, sum_by, Option, Some, None, ⊤}
+use Rattle.std.specs.Prelude.{if◌then◌else◌}
 use Rattle.dbe_values.specs.View.{view}
 use Rattle.dbe_values.specs.declared.value.AttrValue.{AttrValue}
 use Rattle.dbe_values.specs.Keys.{key_fault}

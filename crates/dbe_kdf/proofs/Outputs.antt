@@ -1,5 +1,6 @@
 -- The lengths of what HMAC and HKDF give, and that it is bytes.
-use Rattle.std.proofs.Common.{◌≡◌, ℕ, zero, suc, ◌+◌, ◌*◌, ◌/◌, ◌<◌, List, [], ◌∷◌, ◌++◌, length, slice_index, All, refl, arith, length-append}
+use Rattle.std.proofs.Common.{◌≡◌, ℕ, zero, suc, ◌+◌, ◌*◌, ◌/◌, ◌<◌, List, [], ◌∷◌, ◌++◌, length, slice_index, All}
+use Rattle.std.proofs.Common.{refl, arith, length-append}
 use Rattle.std.specs.Int.{w64, to_be_bytes, byte_at}
 use Rattle.std.proofs.lemmas.List.{length-take-le}
 use Rattle.std.proofs.lemmas.List.Elements.{All-nil, All-cons, All-append, All-take}
@@ -20,10 +21,14 @@ word_bytes x =
     let two = All-cons IsByte (byte_at 1 x) (byte_at 0 x ∷ []) (byte_at-small 1 x) one in
     let three = All-cons IsByte (byte_at 2 x) (byte_at 1 x ∷ byte_at 0 x ∷ []) (byte_at-small 2 x) two in
     let four = All-cons IsByte (byte_at 3 x) (byte_at 2 x ∷ byte_at 1 x ∷ byte_at 0 x ∷ []) (byte_at-small 3 x) three in
-    let five = All-cons IsByte (byte_at 4 x) (byte_at 3 x ∷ byte_at 2 x ∷ byte_at 1 x ∷ byte_at 0 x ∷ []) (byte_at-small 4 x) four in
-    let six = All-cons IsByte (byte_at 5 x) (byte_at 4 x ∷ byte_at 3 x ∷ byte_at 2 x ∷ byte_at 1 x ∷ byte_at 0 x ∷ []) (byte_at-small 5 x) five in
-    let seven = All-cons IsByte (byte_at 6 x) (byte_at 5 x ∷ byte_at 4 x ∷ byte_at 3 x ∷ byte_at 2 x ∷ byte_at 1 x ∷ byte_at 0 x ∷ []) (byte_at-small 6 x) six in
-    All-cons IsByte (byte_at 7 x) (byte_at 6 x ∷ byte_at 5 x ∷ byte_at 4 x ∷ byte_at 3 x ∷ byte_at 2 x ∷ byte_at 1 x ∷ byte_at 0 x ∷ []) (byte_at-small 7 x) seven
+    let five = All-cons IsByte (byte_at 4 x) (byte_at 3 x ∷ byte_at 2 x ∷ byte_at 1 x ∷ byte_at 0 x ∷ [])
+    (byte_at-small 4 x) four in
+    let six = All-cons IsByte (byte_at 5 x) (byte_at 4 x ∷ byte_at 3 x ∷ byte_at 2 x ∷ byte_at 1 x ∷ byte_at 0 x ∷ [])
+    (byte_at-small 5 x) five in
+    let seven = All-cons IsByte (byte_at 6 x) (byte_at 5 x ∷ byte_at 4 x ∷ byte_at 3 x ∷ byte_at 2 x ∷ byte_at 1 x ∷
+    byte_at 0 x ∷ []) (byte_at-small 6 x) six in
+    All-cons IsByte (byte_at 7 x) (byte_at 6 x ∷ byte_at 5 x ∷ byte_at 4 x ∷ byte_at 3 x ∷ byte_at 2 x ∷ byte_at 1 x ∷
+    byte_at 0 x ∷ []) (byte_at-small 7 x) seven
 
 -- the bytes of the first n words of a hash value
 digest_facts : (h : List ℕ) (n : ℕ) → (length (digest_bytes h n) ≡ n * 8) × All IsByte (digest_bytes h n)
@@ -77,7 +82,12 @@ length-hkdf_blocks prk info zero = refl
 length-hkdf_blocks prk info (suc n) =
     let before = length-hkdf_blocks prk info n in
     let block = length-hmac512 prk (hkdf_block prk info n ++ info ++ suc n ∷ []) in
-    omega (arith, length-append (hkdf_blocks prk info n) (hmac sha512 prk (hkdf_block prk info n ++ info ++ suc n ∷ [])), before, block)
+    omega (
+      arith,
+      length-append (hkdf_blocks prk info n) (hmac sha512 prk (hkdf_block prk info n ++ info ++ suc n ∷ [])),
+      before,
+      block,
+    )
 
 bytes-hkdf_blocks : (prk info : List ℕ) (n : ℕ) → All IsByte (hkdf_blocks prk info n)
 unfolding hkdf_blocks hkdf_block

@@ -1,5 +1,6 @@
 -- Numbers compared by their digits and places.
-use Rattle.std.proofs.Common.{◌≡◌, ◌≢◌, ℕ, zero, suc, ◌+◌, ◌-◌, ◌*◌, ◌^◌, ◌<◌, ◌≤◌, true, false, pos, neg_ℤ, refl, sym, ap, ◌∙◌, arith, ◌⊎◌, inl, inr, mul_assoc}
+use Rattle.std.proofs.Common.{◌≡◌, ◌≢◌, ℕ, zero, suc, ◌+◌, ◌-◌, ◌*◌, ◌^◌, ◌<◌, ◌≤◌, true, false, pos, neg_ℤ, refl}
+use Rattle.std.proofs.Common.{sym, ap, ◌∙◌, arith, ◌⊎◌, inl, inr, mul_assoc}
 use Rattle.std.proofs.Common.{nat_cmp, int_cmp, Ordering, Less, Equal, Greater}
 use Rattle.std.specs.Ordering.{ordering_reverse}
 use Rattle.std.proofs.lemmas.Bool.Decides.{nat_tests}
@@ -49,8 +50,10 @@ cmp_reversed x y =
 pub cmp_places : (a b p q : ℕ) → q ≤ p → nat_cmp (a * 10 ^ (p - q)) b ≡ nat_cmp (a * 10 ^ p) (b * 10 ^ q)
 cmp_places a b p q h =
     let whole : p - q + q ≡ p = omega arith in
-    let raised : a * 10 ^ (p - q) * 10 ^ q ≡ a * 10 ^ p = mul_assoc a (10 ^ (p - q)) (10 ^ q) ∙ ap (λ x. a * x) (sym (pow-add 10 (p - q) q)) ∙ ap (λ x. a * 10 ^ x) whole in
-    sym (cmp_scaled (a * 10 ^ (p - q)) b (10 ^ q) (omega (arith, ten_pow_pos q))) ∙ ap (λ x. nat_cmp x (b * 10 ^ q)) raised
+    let raised : a * 10 ^ (p - q) * 10 ^ q ≡ a * 10 ^ p = mul_assoc a (10 ^ (p - q)) (10 ^ q) ∙
+    ap (λ x. a * x) (sym (pow-add 10 (p - q) q)) ∙ ap (λ x. a * 10 ^ x) whole in
+    sym (cmp_scaled (a * 10 ^ (p - q)) b (10 ^ q) (omega (arith, ten_pow_pos q))) ∙
+    ap (λ x. nat_cmp x (b * 10 ^ q)) raised
 
 -- 38 places higher, a number is larger than any of 38 digits
 pub cmp_far : (a by b : ℕ) → a ≢ 0 → 38 ≤ by → b < 10 ^ 38 → Greater ≡ nat_cmp (a * 10 ^ by) b
@@ -79,11 +82,15 @@ some_units d normal negative =
     omega (arith, mul-le 1 1 d.digits (10 ^ d.place) (omega arith) (ten_pow_pos d.place))
 
 pub negative_first : (a b : Decimal) → IsNormal a → a.negative ≡ true → b.negative ≡ false → Less ≡ number_order a b
-negative_first a b normal e f = rw (e, f) (sym (below_zero (a.digits * 10 ^ a.place) (b.digits * 10 ^ b.place) (some_units a normal e)))
+negative_first a b normal e f =
+    rw (e, f) (sym (below_zero (a.digits * 10 ^ a.place) (b.digits * 10 ^ b.place) (some_units a normal e)))
 
 pub negative_last : (a b : Decimal) → IsNormal b → a.negative ≡ false → b.negative ≡ true → Greater ≡ number_order a b
-negative_last a b normal e f = rw (e, f) (sym (above_zero (b.digits * 10 ^ b.place) (a.digits * 10 ^ a.place) (some_units b normal f)))
+negative_last a b normal e f =
+    rw (e, f) (sym (above_zero (b.digits * 10 ^ b.place) (a.digits * 10 ^ a.place) (some_units b normal f)))
 
 -- what the code has of two numbers
-pub sizes_compared : (a b : Decimal) (x y p q : ℕ) (r : Ordering) → x ≡ a.digits → y ≡ b.digits → p ≡ a.place → q ≡ b.place → q ≤ p → r ≡ nat_cmp (x * 10 ^ (p - q)) y → r ≡ nat_cmp (a.digits * 10 ^ a.place) (b.digits * 10 ^ b.place)
+pub sizes_compared : (a b : Decimal) (x y p q : ℕ) (r : Ordering) → x ≡ a.digits → y ≡ b.digits → p ≡ a.place →
+    q ≡ b.place → q ≤ p → r ≡ nat_cmp (x * 10 ^ (p - q)) y →
+    r ≡ nat_cmp (a.digits * 10 ^ a.place) (b.digits * 10 ^ b.place)
 sizes_compared a b x y p q r e f g h le given = given ∙ cmp_places x y p q le ∙ rw (e, f, g, h)

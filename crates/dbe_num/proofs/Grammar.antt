@@ -1,11 +1,16 @@
 -- A text read from left to right is the numeral that the grammar has for it, and no other.
-use Rattle.std.proofs.Common.{◌≡◌, ◌≢◌, ℕ, ◌+◌, ◌<◌, Bool, true, false, ◌&&◌, nat_lt, if◌then◌else◌, ◌==◌, List, [], ◌∷◌, ◌++◌, length, Option, Some, None, Err, refl, sym, ap, ◌∙◌, arith, inl, inr, append-nil, ltb-true, eqb-true}
+use Rattle.std.proofs.Common.{◌≡◌, ◌≢◌, ℕ, ◌+◌, ◌<◌, Bool, true, false, ◌&&◌, nat_lt, if◌then◌else◌, ◌==◌, List, []}
+use Rattle.std.proofs.Common.{◌∷◌, ◌++◌, length, Option, Some, None, Err, refl, sym, ap, ◌∙◌, arith, inl, inr}
+use Rattle.std.proofs.Common.{append-nil, ltb-true, eqb-true}
 use Rattle.std.proofs.lemmas.Bool.Decides.{nat_tests, eqb_tells}
 use Rattle.std.proofs.lemmas.List.{nil_from_length}
 use Rattle.std.specs.Str.{all_ascii_digits}
 use Rattle.std.specs.Char.{is_ascii_digit}
-use Rattle.dbe_num.specs.Numeral.{Sign, unmarked, plus, minus, sign_text, Fraction, no_point, point, fraction_text, fraction_digits, Power, no_power, power, power_text, IsPower, Numeral, numeral_text, IsNumeral, numeral_number}
-use Rattle.dbe_num.specs.Reading.{sign_at, after_sign, digits_at, after_digits, fraction_at, after_fraction, power_after, power_of, with_power, numeral_of, number_of, number_of_option}
+use Rattle.dbe_num.specs.Numeral.{Sign, unmarked, plus, minus, sign_text, Fraction, no_point, point, fraction_text}
+use Rattle.dbe_num.specs.Numeral.{fraction_digits, Power, no_power, power, power_text, IsPower, Numeral, numeral_text}
+use Rattle.dbe_num.specs.Numeral.{IsNumeral, numeral_number}
+use Rattle.dbe_num.specs.Reading.{sign_at, after_sign, digits_at, after_digits, fraction_at, after_fraction}
+use Rattle.dbe_num.specs.Reading.{power_after, power_of, with_power, numeral_of, number_of, number_of_option}
 use Rattle.dbe_num.specs.declared.number_fault.NumberFault.TheVariants.{NotNumber}
 use Rattle.dbe_num.proofs.Digits.{first_is_digit, others_are_digits, digit_range}
 use Rattle.dbe_num.proofs.Parsed.{digits_at_are_digits, fraction_are_digits}
@@ -30,13 +35,15 @@ HasNoPoint (c ∷ cs) = c ≢ 46
 eqb_no : (a b : ℕ) → a ≢ b → (a == b) ≡ false
 eqb_no a b h = elim (eqb_tells a b) [ inl p ↦ absurd (h p.1) | inr p ↦ p.0 ]
 
-sign_read : (s : Sign) (cs : List ℕ) → HasNoSign cs → (sign_at (sign_text s ++ cs) ≡ s) × (after_sign (sign_text s ++ cs) ≡ cs)
+sign_read : (s : Sign) (cs : List ℕ) → HasNoSign cs → (sign_at (sign_text s ++ cs) ≡ s) ×
+    (after_sign (sign_text s ++ cs) ≡ cs)
 sign_read unmarked [] h = (refl, refl)
 sign_read unmarked (c ∷ cs) h = (rw (eqb_no c 43 h.0, eqb_no c 45 h.1), rw (eqb_no c 43 h.0, eqb_no c 45 h.1))
 sign_read plus cs h = (refl, refl)
 sign_read minus cs h = (refl, refl)
 
-digits_read : (ds cs : List ℕ) → all_ascii_digits ds ≡ true → HasNoDigit cs → (digits_at (ds ++ cs) ≡ ds) × (after_digits (ds ++ cs) ≡ cs)
+digits_read : (ds cs : List ℕ) → all_ascii_digits ds ≡ true → HasNoDigit cs → (digits_at (ds ++ cs) ≡ ds) ×
+    (after_digits (ds ++ cs) ≡ cs)
 digits_read [] [] h k = (refl, refl)
 digits_read [] (c ∷ cs) h k = (rw k, rw k)
 digits_read (d ∷ ds) cs h k =
@@ -44,7 +51,8 @@ digits_read (d ∷ ds) cs h k =
     let digit = first_is_digit d ds h in
     (rw digit (ap (λ x. d ∷ x) more.0), rw digit more.1)
 
-fraction_read : (f : Fraction) (cs : List ℕ) → all_ascii_digits (fraction_digits f) ≡ true → HasNoDigit cs → HasNoPoint cs → (fraction_at (fraction_text f ++ cs) ≡ f) × (after_fraction (fraction_text f ++ cs) ≡ cs)
+fraction_read : (f : Fraction) (cs : List ℕ) → all_ascii_digits (fraction_digits f) ≡ true → HasNoDigit cs →
+    HasNoPoint cs → (fraction_at (fraction_text f ++ cs) ≡ f) × (after_fraction (fraction_text f ++ cs) ≡ cs)
 fraction_read no_point [] h k p = (refl, refl)
 fraction_read no_point (c ∷ cs) h k p = (rw (eqb_no c 46 p), rw (eqb_no c 46 p))
 fraction_read (point ds) cs h k p =
@@ -57,7 +65,8 @@ digits_have_no_sign (c ∷ cs) h =
     let range = digit_range c (first_is_digit c cs h) in
     (λ e. absurd (omega arith), λ e. absurd (omega arith))
 
-power_after_read : (upper : Bool) (sign : Sign) (digits : List ℕ) → all_ascii_digits digits ≡ true → 0 < length digits → power_after upper (sign_text sign ++ digits) ≡ Some (power upper sign digits)
+power_after_read : (upper : Bool) (sign : Sign) (digits : List ℕ) → all_ascii_digits digits ≡ true →
+    0 < length digits → power_after upper (sign_text sign ++ digits) ≡ Some (power upper sign digits)
 power_after_read upper sign digits h some =
     let signed = sign_read sign digits (digits_have_no_sign digits h) in
     let front : digits_at digits ≡ digits = rw append-nil at ((digits_read digits [] h tt).0) in
@@ -84,7 +93,8 @@ rest_has_no_digit : (f : Fraction) (p : Power) → HasNoDigit (fraction_text f +
 rest_has_no_digit no_point p = power_has_no_digit p
 rest_has_no_digit (point ds) p = refl
 
-body_has_no_sign : (whole : List ℕ) (f : Fraction) (rest : List ℕ) → all_ascii_digits whole ≡ true → 0 < length whole + length (fraction_digits f) → HasNoSign (whole ++ (fraction_text f ++ rest))
+body_has_no_sign : (whole : List ℕ) (f : Fraction) (rest : List ℕ) → all_ascii_digits whole ≡ true →
+    0 < length whole + length (fraction_digits f) → HasNoSign (whole ++ (fraction_text f ++ rest))
 body_has_no_sign [] no_point rest h some = absurd (omega arith)
 body_has_no_sign [] (point ds) rest h some = (λ e. absurd (omega arith), λ e. absurd (omega arith))
 body_has_no_sign (c ∷ cs) f rest h some =
@@ -94,10 +104,13 @@ body_has_no_sign (c ∷ cs) f rest h some =
 numeral_read : (t : Numeral) → IsNumeral t → numeral_of (numeral_text t) ≡ Some t
 numeral_read t h =
     let rest : List ℕ = fraction_text t.fraction ++ power_text t.exponent in
-    let signed = sign_read t.sign (t.whole ++ rest) (body_has_no_sign t.whole t.fraction (power_text t.exponent) h.whole h.a_digit) in
+    let signed = sign_read t.sign (t.whole ++ rest) (body_has_no_sign t.whole t.fraction (power_text t.exponent)
+    h.whole h.a_digit) in
     let whole = digits_read t.whole rest h.whole (rest_has_no_digit t.fraction t.exponent) in
-    let part = fraction_read t.fraction (power_text t.exponent) h.fraction (power_has_no_digit t.exponent) (power_has_no_point t.exponent) in
-    let tested : nat_lt 0 (length t.whole + length (fraction_digits t.fraction)) ≡ true = (let some = h.a_digit in grind (arith, nat_tests)) in
+    let part = fraction_read t.fraction (power_text t.exponent) h.fraction (power_has_no_digit t.exponent)
+    (power_has_no_point t.exponent) in
+    let tested : nat_lt 0 (length t.whole + length (fraction_digits t.fraction)) ≡ true = (let some = h.a_digit in
+    grind (arith, nat_tests)) in
     rw (signed.0, signed.1, whole.0, whole.1, part.0, part.1, power_read t.exponent h.exponent, tested)
 
 pub grammar_read : (t : Numeral) → IsNumeral t → number_of (numeral_text t) ≡ numeral_number t
@@ -114,7 +127,8 @@ sign_split (c ∷ cs) =
       | inr p ↦ elim (eqb_tells c 45) [ inl q ↦ rw q.1 | inr q ↦ rw (p.0, q.0) ]
     ]
 
-one_digit_split : (c : ℕ) (cs : List ℕ) (b : Bool) → is_ascii_digit c ≡ b → cs ≡ digits_at cs ++ after_digits cs → c ∷ cs ≡ digits_at (c ∷ cs) ++ after_digits (c ∷ cs)
+one_digit_split : (c : ℕ) (cs : List ℕ) (b : Bool) → is_ascii_digit c ≡ b → cs ≡ digits_at cs ++ after_digits cs →
+    c ∷ cs ≡ digits_at (c ∷ cs) ++ after_digits (c ∷ cs)
 one_digit_split c cs true e h = rw e (ap (λ x. c ∷ x) h)
 one_digit_split c cs false e h = rw e
 
@@ -138,16 +152,23 @@ both_are : (a b : Bool) → a && b ≡ true → (a ≡ true) × (b ≡ true)
 both_are true b h = (refl, h)
 both_are false b h = absurd (cc)
 
-power_after_split : (upper : Bool) (cs : List ℕ) (p : Power) → power_after upper cs ≡ Some p → (p ≡ power upper (sign_at cs) (digits_at (after_sign cs))) × (cs ≡ sign_text (sign_at cs) ++ digits_at (after_sign cs)) × (0 < length (digits_at (after_sign cs)))
+power_after_split : (upper : Bool) (cs : List ℕ) (p : Power) → power_after upper cs ≡ Some p →
+    (p ≡ power upper (sign_at cs) (digits_at (after_sign cs))) ×
+    (cs ≡ sign_text (sign_at cs) ++ digits_at (after_sign cs)) × (0 < length (digits_at (after_sign cs)))
 power_after_split upper cs p h =
-    let tested = if_some (nat_lt 0 (length (digits_at (after_sign cs))) && length (after_digits (after_sign cs)) == 0) (power upper (sign_at cs) (digits_at (after_sign cs))) p h in
-    let both = both_are (nat_lt 0 (length (digits_at (after_sign cs)))) (length (after_digits (after_sign cs)) == 0) tested.0 in
+    let tested = if_some (nat_lt 0 (length (digits_at (after_sign cs))) && length (after_digits (after_sign cs)) ==
+    0) (power upper (sign_at cs) (digits_at (after_sign cs))) p h in
+    let both = both_are (nat_lt 0 (length (digits_at (after_sign cs)))) (length (after_digits (after_sign cs)) ==
+    0) tested.0 in
     let some : 0 < length (digits_at (after_sign cs)) = ltb-true _ _ both.0 in
-    let none : after_digits (after_sign cs) ≡ [] = nil_from_length (after_digits (after_sign cs)) (eqb-true _ _ both.1) in
-    let body : after_sign cs ≡ digits_at (after_sign cs) = digits_split (after_sign cs) ∙ ap (λ x. digits_at (after_sign cs) ++ x) none ∙ append-nil (digits_at (after_sign cs)) in
+    let none : after_digits (after_sign cs) ≡ [] =
+    nil_from_length (after_digits (after_sign cs)) (eqb-true _ _ both.1) in
+    let body : after_sign cs ≡ digits_at (after_sign cs) = digits_split (after_sign cs) ∙
+    ap (λ x. digits_at (after_sign cs) ++ x) none ∙ append-nil (digits_at (after_sign cs)) in
     (sym tested.1, sign_split cs ∙ ap (λ x. sign_text (sign_at cs) ++ x) body, some)
 
-power_lettered : (upper : Bool) (c : ℕ) (cs : List ℕ) (p : Power) → c ≡ (if upper then 69 else 101) → power_after upper cs ≡ Some p → (c ∷ cs ≡ power_text p) × IsPower p
+power_lettered : (upper : Bool) (c : ℕ) (cs : List ℕ) (p : Power) → c ≡ (if upper then 69 else 101) →
+    power_after upper cs ≡ Some p → (c ∷ cs ≡ power_text p) × IsPower p
 power_lettered upper c cs p e h =
     let parts = power_after_split upper cs p h in
     rw (parts.0, e) (ap (λ x. (if upper then 69 else 101) ∷ x) parts.1, (digits_at_are_digits (after_sign cs), parts.2))
@@ -171,7 +192,8 @@ record HasRead (sign : Sign) (whole : List ℕ) (fraction : Fraction) (o : Optio
   some : 0 < length whole + length (fraction_digits fraction)
   is : t ≡ record { sign = sign; whole = whole; fraction = fraction; exponent = exponent }
 
-with_power_split : (sign : Sign) (whole : List ℕ) (fraction : Fraction) (o : Option Power) (t : Numeral) → with_power sign whole fraction o ≡ Some t → HasRead sign whole fraction o t
+with_power_split : (sign : Sign) (whole : List ℕ) (fraction : Fraction) (o : Option Power) (t : Numeral) →
+    with_power sign whole fraction o ≡ Some t → HasRead sign whole fraction o t
 with_power_split sign whole fraction None t h = absurd (cc)
 with_power_split sign whole fraction (Some p) t h =
     let made : Numeral = record { sign = sign; whole = whole; fraction = fraction; exponent = p } in
@@ -182,24 +204,33 @@ pub numeral_split : (text : List ℕ) (t : Numeral) → numeral_of text ≡ Some
 numeral_split text t h =
     let body : List ℕ = after_sign text in
     let rest : List ℕ = after_digits body in
-    let read = with_power_split (sign_at text) (digits_at body) (fraction_at rest) (power_of (after_fraction rest)) t h in
+    let read = with_power_split (sign_at text) (digits_at body) (fraction_at rest) (power_of (after_fraction rest)) t
+    h in
     let last = power_split (after_fraction rest) read.exponent read.there in
-    let lawful : IsNumeral (record { sign = sign_at text; whole = digits_at body; fraction = fraction_at rest; exponent = read.exponent }) = record {
+    let lawful : IsNumeral (record {
+      sign = sign_at text;
+      whole = digits_at body;
+      fraction = fraction_at rest;
+      exponent = read.exponent;
+    }) = record {
       whole = digits_at_are_digits body;
       fraction = fraction_are_digits rest;
       a_digit = read.some;
       exponent = last.1;
     } in
-    let spelled : text ≡ sign_text (sign_at text) ++ (digits_at body ++ (fraction_text (fraction_at rest) ++ power_text read.exponent)) =
+    let spelled : text ≡ sign_text (sign_at text) ++ (digits_at body ++ (fraction_text (fraction_at rest) ++
+    power_text read.exponent)) =
     sign_split text
-    ∙ ap (λ x. sign_text (sign_at text) ++ x) (digits_split body ∙ ap (λ x. digits_at body ++ x) (fraction_split rest ∙ ap (λ x. fraction_text (fraction_at rest) ++ x) last.0)) in
+    ∙ ap (λ x. sign_text (sign_at text) ++ x) (digits_split body ∙
+    ap (λ x. digits_at body ++ x) (fraction_split rest ∙ ap (λ x. fraction_text (fraction_at rest) ++ x) last.0)) in
     rw read.is (lawful, spelled)
 
 pub numeral_there : (o : Option Numeral) → number_of_option o ≢ Err NotNumber → (t : Numeral) × (o ≡ Some t)
 numeral_there None h = absurd (h refl)
 numeral_there (Some t) h = (t, refl)
 
-pub grammar_only : (text : List ℕ) → number_of text ≢ Err NotNumber → (t : Numeral) × IsNumeral t × (text ≡ numeral_text t)
+pub grammar_only : (text : List ℕ) → number_of text ≢ Err NotNumber → (t : Numeral) × IsNumeral t ×
+    (text ≡ numeral_text t)
 unfolding number_of
 grammar_only text h =
     let there = numeral_there (numeral_of text) h in

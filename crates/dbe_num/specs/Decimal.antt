@@ -1,6 +1,7 @@
 -- Decimal numbers (Amazon DynamoDB Developer Guide, "Supported data types and naming rules", Number):
 -- up to 38 digits, zero or from 10^-130 to below 10^126 in size. The normal form is this project's own.
-use Rattle.std.specs.Prelude.{◌≡◌, ℕ, ◌+◌, ◌-◌, ◌*◌, ◌%◌, ◌^◌, ◌<◌, ◌≤◌, Bool, false, length, decimal, ℤ, pos, negsuc, neg_ℤ, if◌then◌else◌}
+use Rattle.std.specs.Prelude.{◌≡◌, ℕ, ◌+◌, ◌-◌, ◌*◌, ◌%◌, ◌^◌, ◌<◌, ◌≤◌, Bool, false, length, decimal, ℤ, pos, negsuc}
+use Rattle.std.specs.Prelude.{neg_ℤ, if◌then◌else◌}
 use Rattle.std.specs.Ordering.{int_cmp}
 use Rattle.std.specs.declared.cmp.Ordering.{Ordering}
 

@@ -1,6 +1,7 @@
 -- The texts of numbers, this project's own grammar of the numbers that DynamoDB takes as text:
 -- each form is a tree, a printer from the tree to its bytes, and a fact that says which trees are valid.
-use Rattle.std.specs.Prelude.{◌≡◌, ℕ, ◌+◌, ◌-◌, ◌*◌, ◌<◌, Bool, true, false, ◌&&◌, List, [], ◌∷◌, ◌++◌, length, reverse, if◌then◌else◌, ◌==◌, nat_lt, nat_le, Result, Ok, Err}
+use Rattle.std.specs.Prelude.{◌≡◌, ℕ, ◌+◌, ◌-◌, ◌*◌, ◌<◌, Bool, true, false, ◌&&◌, List, [], ◌∷◌, ◌++◌, length}
+use Rattle.std.specs.Prelude.{reverse, if◌then◌else◌, ◌==◌, nat_lt, nat_le, Result, Ok, Err}
 use Rattle.std.specs.Str.{all_ascii_digits}
 use Rattle.dbe_num.specs.Decimal.{Decimal, zero_number}
 use Rattle.dbe_num.specs.declared.number_fault.NumberFault.{NumberFault}
@@ -118,4 +119,5 @@ number_of_digits negative cs raised lowered =
 abbrev pub numeral_number : Numeral → Result Decimal NumberFault
 numeral_number t =
     let after_point = fraction_digits t.fraction in
-    number_of_digits (is_minus t.sign) (t.whole ++ after_point) (raised_by t.exponent) (lowered_by t.exponent + length after_point)
+    number_of_digits (is_minus t.sign) (t.whole ++ after_point) (raised_by t.exponent) (lowered_by t.exponent + length
+    after_point)

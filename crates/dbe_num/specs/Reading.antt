@@ -1,8 +1,10 @@
 -- The numeral that a text is, from left to right. `is_the_numeral` and `has_no_numeral` tie it to the grammar.
-use Rattle.std.specs.Prelude.{ℕ, ◌+◌, Bool, ◌&&◌, ◌||◌, List, [], ◌∷◌, length, Option, Some, None, Result, Err, if◌then◌else◌, ◌==◌, nat_lt}
+use Rattle.std.specs.Prelude.{ℕ, ◌+◌, Bool, ◌&&◌, ◌||◌, List, [], ◌∷◌, length, Option, Some, None, Result, Err}
+use Rattle.std.specs.Prelude.{if◌then◌else◌, ◌==◌, nat_lt}
 use Rattle.std.specs.Char.{is_ascii_digit}
 use Rattle.dbe_num.specs.Decimal.{Decimal}
-use Rattle.dbe_num.specs.Numeral.{Sign, unmarked, plus, minus, Fraction, no_point, point, fraction_digits, Power, no_power, power, Numeral, numeral_number}
+use Rattle.dbe_num.specs.Numeral.{Sign, unmarked, plus, minus, Fraction, no_point, point, fraction_digits, Power}
+use Rattle.dbe_num.specs.Numeral.{no_power, power, Numeral, numeral_number}
 use Rattle.dbe_num.specs.declared.number_fault.NumberFault.{NumberFault}
 use Rattle.dbe_num.specs.declared.number_fault.NumberFault.TheVariants.{NotNumber}
 
@@ -37,7 +39,8 @@ after_fraction (b ∷ bytes) = if b == 46 then after_digits bytes else b ∷ byt
 abbrev pub power_after : Bool → List ℕ → Option Power
 power_after upper bytes =
     let digits = digits_at (after_sign bytes) in
-    if nat_lt 0 (length digits) && length (after_digits (after_sign bytes)) == 0 then Some (power upper (sign_at bytes) digits) else None
+    if nat_lt 0 (length digits) && length (after_digits (after_sign bytes)) ==
+    0 then Some (power upper (sign_at bytes) digits) else None
 
 abbrev pub power_of : List ℕ → Option Power
 power_of [] = Some no_power
@@ -47,7 +50,12 @@ power_of (b ∷ bytes) = if b == 101 || b == 69 then power_after (b == 69) bytes
 abbrev pub with_power : Sign → List ℕ → Fraction → Option Power → Option Numeral
 with_power sign whole fraction None = None
 with_power sign whole fraction (Some p) =
-    if nat_lt 0 (length whole + length (fraction_digits fraction)) then Some (record { sign = sign; whole = whole; fraction = fraction; exponent = p })
+    if nat_lt 0 (length whole + length (fraction_digits fraction)) then Some (record {
+      sign = sign;
+      whole = whole;
+      fraction = fraction;
+      exponent = p;
+    })
     else None
 
 -- the numeral that a text is, or none

@@ -1,9 +1,6 @@
 pub mod Counts
-pub mod Known
-pub mod Asked
 pub mod Distinct
-pub mod Floats
-pub mod Named
 pub mod Computed
 pub mod Replies
-pub mod Keys
+pub mod Puts
+pub mod Maps

@@ -1,7 +1,4 @@
-pub mod Requests
-pub mod KeysRead
-pub mod QueriesRead
-pub mod Queries
-pub mod Texts
 pub mod Reply
 pub mod Steps
+pub mod Maps
+pub mod Faults

@@ -3,16 +3,12 @@
 
 mod computing;
 mod explaining;
+pub mod laws;
 mod names;
-mod queries;
-mod request;
-mod requests;
+mod rewriting;
 mod searching;
 mod session;
 #[cfg(test)]
 mod tests;
-mod texts;
 
-pub use request::{Query, Request};
-pub use requests::read_request;
 pub use session::{Session, StepFault};

@@ -1,124 +1,110 @@
-ghost use Rattle.std.specs.Prelude.{◌≡◌, ◌≤◌, List, filter, Some, Err, IfOk, OnErr, IsSome, option_map};
-ghost use Rattle.dbe_io.specs.Causes.{Rose};
+ghost use Rattle.std.specs.Prelude.{◌≡◌, List, filter, Some, IfOk, OnErr, IsSome, option_map};
+ghost use Rattle.dbe_io.specs.Causes.{HasCause};
 ghost use Rattle.dbe_cond.specs.Condition.{condition_of};
 ghost use Rattle.dbe_cond.specs.Meaning.{holds};
 ghost use Rattle.dbe_table.specs.Rows.{Row, wanted_rows};
-ghost use Rattle.dbe_session.specs.declared.request.Request.TheVariants as r;
-ghost use Rattle.dbe_session.specs.Reply.{State, in_config, has_computed, handed_out, selects, selected_text, query_reply, searchable, reserved_in};
-ghost use Rattle.dbe_session.specs.Steps.{Replied, Kept, IsReply, IsGivenBy, IsOnly, IsAskedBy, only_of};
+ghost use Rattle.dbe_lines.specs.declared.request.Request.TheVariants as r;
+ghost use Rattle.dbe_session.specs.Faults.{is_table_fault};
+ghost use Rattle.dbe_session.specs.Reply.{Environment, State, handed_out, selects, selection_text, query_reply, unless_refused, refused_in};
+ghost use Rattle.dbe_session.specs.Steps.{told, IsState, RequestAnswered, RequestUnanswered, IsReply, IsGivenBy, IsOnly, IsAskedBy, only_of};
 
 use crate::computing::has_computed;
 use crate::names::distinct_names;
-use crate::texts::{cond_refusal, count_text, item_text, not_searchable};
-use crate::{Query, StepFault};
-use dbe_cond::{Cond, Wanted, first_name_with, holds, read};
+use crate::rewriting::refused_in;
+use crate::{Session, StepFault};
+use dbe_cond::{Cond, Wanted, holds, read};
 use dbe_config::Config;
 use dbe_fields::values_of;
+use dbe_lines::{Query, cond_refusal, count_text, item_text, rewrite_refusal};
 use dbe_num::{Memory, Text};
 use dbe_table::Table;
 use dbe_values::Item;
 use std::alloc::Global;
 
-/// The reply to a query.
-pub(crate) fn query_table<T: Table>(
-    alloc: Global,
-    config: &Config,
-    table: &mut T,
-    query: &Query,
-) -> Result<Vec<u8>, StepFault>
-    requires { T.begun table.old ≡ Some config.now.schema }
-    ensures ok { IfOk result (λ text. (s : State) → T.rows table.old ≡ Some s.rows → Replied (in_config config.now) s (r.Query query.now) text.items (T.rows table.new) (T.given table.old) (T.given table.new)) }
-    ensures err { OnErr result ((s : State) → T.rows table.old ≡ Some s.rows → Kept (in_config config.now) s (r.Query query.now) (T.rows table.new) (T.given table.old) (T.given table.new)) }
-    ensures begun { T.begun table.new ≡ T.begun table.old }
-    ensures later { T.faults table.old ≤ T.faults table.new }
-    ensures failed { result ≡ Err StepFault.Table → Rose (T.faults table.old) (T.faults table.new) }
-{
-    match read(alloc, query.text.as_str(), &query.names, &query.values) {
-        Ok(cond) => search(alloc, config, table, &Wanted::Only(cond)),
-        Err(fault) => Ok(cond_refusal(alloc, &fault)?),
+impl Session {
+    /// The reply to a query.
+    pub(crate) fn query<T: Table>(&self, table: &mut T, query: &Query) -> Result<Vec<u8>, StepFault>
+        requires { T.begun table.old ≡ Some self.now.config.schema }
+        ensures ok { IfOk result (λ text. (e : Environment) (s : State) → IsState self.now (told (T.rows table.old) (T.given table.old)) e s → RequestAnswered e s (r.Query query.now) text.items (told (T.rows table.old) (T.given table.old)) (told (T.rows table.new) (T.given table.new))) }
+        ensures err { OnErr result ((e : Environment) (s : State) → IsState self.now (told (T.rows table.old) (T.given table.old)) e s → RequestUnanswered e s (r.Query query.now) (told (T.rows table.old) (T.given table.old)) (told (T.rows table.new) (T.given table.new))) }
+        ensures begun { T.begun table.new ≡ T.begun table.old }
+        ensures cause { HasCause (is_table_fault result) (T.faults table.old) (T.faults table.new) }
+    {
+        match read(
+            self.alloc(),
+            query.text.as_str(),
+            &query.names,
+            &query.values,
+        ) {
+            Ok(cond) => self.search(table, &Wanted::Only(cond)),
+            Err(fault) => Ok(cond_refusal(self.alloc(), &fault)?),
+        }
+    }
+
+    // The rows of which a condition holds.
+    fn search<T: Table>(&self, table: &mut T, only: &Wanted) -> Result<Vec<u8>, StepFault>
+        requires begun { IsSome (T.begun table.old) }
+        requires only { IsOnly only.now }
+        ensures ok { IfOk result (λ text. (e : Environment) (s : State) → IsState self.now (told (T.rows table.old) (T.given table.old)) e s → IsReply (unless_refused s (refused_in e s (only_of only.now)) (query_reply e s (only_of only.now))) text.items (T.given table.old) (T.given table.new)) }
+        ensures err { OnErr result ((e : Environment) (s : State) → IsState self.now (told (T.rows table.old) (T.given table.old)) e s → IsGivenBy (unless_refused s (refused_in e s (only_of only.now)) (query_reply e s (only_of only.now))) (T.given table.old) (T.given table.new)) }
+        ensures same { T.rows table.new ≡ T.rows table.old }
+        ensures begun { T.begun table.new ≡ T.begun table.old }
+        ensures cause { HasCause (is_table_fault result) (T.faults table.old) (T.faults table.new) }
+    {
+        let Wanted::Only(cond) = only else {
+            unreachable!()
+        };
+        match refused_in(self.alloc(), cond)? {
+            Some(fault) => Ok(rewrite_refusal(self.alloc(), &fault)?),
+            None => self.search_rows(table, only, cond),
+        }
+    }
+
+    fn search_rows<T: Table>(
+        &self,
+        table: &mut T,
+        only: &Wanted,
+        cond: &Cond,
+    ) -> Result<Vec<u8>, StepFault>
+        requires begun { IsSome (T.begun table.old) }
+        requires only { (rows : List Row) → wanted_rows only.now rows ≡ filter (holds (condition_of cond.now)) rows }
+        ensures ok { IfOk result (λ text. (e : Environment) (s : State) → IsState self.now (told (T.rows table.old) (T.given table.old)) e s → IsReply (query_reply e s (condition_of cond.now)) text.items (T.given table.old) (T.given table.new)) }
+        ensures err { OnErr result ((e : Environment) (s : State) → IsState self.now (told (T.rows table.old) (T.given table.old)) e s → IsGivenBy (query_reply e s (condition_of cond.now)) (T.given table.old) (T.given table.new)) }
+        ensures same { T.rows table.new ≡ T.rows table.old }
+        ensures begun { T.begun table.new ≡ T.begun table.old }
+        ensures cause { HasCause (is_table_fault result) (T.faults table.old) (T.faults table.new) }
+    {
+        if has_computed(self.config(), cond) {
+            let names = distinct_names(self.alloc(), cond)?;
+            self.search_by(table, &Wanted::Every, cond, Some(names.as_slice()))
+        } else {
+            self.search_by(table, only, cond, None)
+        }
+    }
+
+    fn search_by<T: Table>(
+        &self,
+        table: &mut T,
+        wanted: &Wanted,
+        cond: &Cond,
+        names: Option<&[Text]>,
+    ) -> Result<Vec<u8>, StepFault>
+        requires begun { IsSome (T.begun table.old) }
+        requires wanted { (e : Environment) (s : State) → self.now.config ≡ e.config → wanted_rows wanted.now s.rows ≡ handed_out e s (condition_of cond.now) }
+        requires names { IsAskedBy self.now.config (condition_of cond.now) (option_map (λ n. n.now) names) }
+        ensures ok { IfOk result (λ text. (e : Environment) (s : State) → IsState self.now (told (T.rows table.old) (T.given table.old)) e s → IsReply (query_reply e s (condition_of cond.now)) text.items (T.given table.old) (T.given table.new)) }
+        ensures err { OnErr result ((e : Environment) (s : State) → IsState self.now (told (T.rows table.old) (T.given table.old)) e s → IsGivenBy (query_reply e s (condition_of cond.now)) (T.given table.old) (T.given table.new)) }
+        ensures same { T.rows table.new ≡ T.rows table.old }
+        ensures begun { T.begun table.new ≡ T.begun table.old }
+        ensures cause { HasCause (is_table_fault result) (T.faults table.old) (T.faults table.new) }
+    {
+        let found = table.select(wanted)?;
+        Ok(selection_text(self.alloc(), self.config(), cond, names, &found)?)
     }
 }
 
-// The rows of which a condition holds.
-fn search<T: Table>(
-    alloc: Global,
-    config: &Config,
-    table: &mut T,
-    only: &Wanted,
-) -> Result<Vec<u8>, StepFault>
-    requires begun { IsSome (T.begun table.old) }
-    requires only { IsOnly only.now }
-    ensures ok { IfOk result (λ text. (s : State) → T.rows table.old ≡ Some s.rows → IsReply (searchable s (reserved_in (only_of only.now)) (query_reply (in_config config.now) s (only_of only.now))) text.items (T.given table.old) (T.given table.new)) }
-    ensures err { OnErr result ((s : State) → T.rows table.old ≡ Some s.rows → IsGivenBy (searchable s (reserved_in (only_of only.now)) (query_reply (in_config config.now) s (only_of only.now))) (T.given table.old) (T.given table.new)) }
-    ensures same { T.rows table.new ≡ T.rows table.old }
-    ensures begun { T.begun table.new ≡ T.begun table.old }
-    ensures later { T.faults table.old ≤ T.faults table.new }
-    ensures failed { result ≡ Err StepFault.Table → Rose (T.faults table.old) (T.faults table.new) }
-{
-    let Wanted::Only(cond) = only else {
-        unreachable!()
-    };
-    match first_name_with(cond, "aws_dbe_") {
-        Some(name) => Ok(not_searchable(alloc, name.as_str())?),
-        None => search_rows(alloc, config, table, only, cond),
-    }
-}
-
-fn search_rows<T: Table>(
-    alloc: Global,
-    config: &Config,
-    table: &mut T,
-    only: &Wanted,
-    cond: &Cond,
-) -> Result<Vec<u8>, StepFault>
-    requires begun { IsSome (T.begun table.old) }
-    requires only { (rows : List Row) → wanted_rows only.now rows ≡ filter (holds (condition_of cond.now)) rows }
-    ensures ok { IfOk result (λ text. (s : State) → T.rows table.old ≡ Some s.rows → IsReply (query_reply (in_config config.now) s (condition_of cond.now)) text.items (T.given table.old) (T.given table.new)) }
-    ensures err { OnErr result ((s : State) → T.rows table.old ≡ Some s.rows → IsGivenBy (query_reply (in_config config.now) s (condition_of cond.now)) (T.given table.old) (T.given table.new)) }
-    ensures same { T.rows table.new ≡ T.rows table.old }
-    ensures begun { T.begun table.new ≡ T.begun table.old }
-    ensures later { T.faults table.old ≤ T.faults table.new }
-    ensures failed { result ≡ Err StepFault.Table → Rose (T.faults table.old) (T.faults table.new) }
-{
-    if has_computed(config, cond) {
-        let names = distinct_names(alloc, cond)?;
-        search_by(
-            alloc,
-            config,
-            table,
-            &Wanted::Every,
-            cond,
-            Some(names.as_slice()),
-        )
-    } else {
-        search_by(alloc, config, table, only, cond, None)
-    }
-}
-
-fn search_by<T: Table>(
-    alloc: Global,
-    config: &Config,
-    table: &mut T,
-    wanted: &Wanted,
-    cond: &Cond,
-    names: Option<&[Text]>,
-) -> Result<Vec<u8>, StepFault>
-    requires begun { IsSome (T.begun table.old) }
-    requires wanted { (s : State) → wanted_rows wanted.now s.rows ≡ handed_out (in_config config.now) s (condition_of cond.now) }
-    requires names { IsAskedBy config.now (condition_of cond.now) (option_map (λ n. n.now) names) }
-    ensures ok { IfOk result (λ text. (s : State) → T.rows table.old ≡ Some s.rows → IsReply (query_reply (in_config config.now) s (condition_of cond.now)) text.items (T.given table.old) (T.given table.new)) }
-    ensures err { OnErr result ((s : State) → T.rows table.old ≡ Some s.rows → IsGivenBy (query_reply (in_config config.now) s (condition_of cond.now)) (T.given table.old) (T.given table.new)) }
-    ensures same { T.rows table.new ≡ T.rows table.old }
-    ensures begun { T.begun table.new ≡ T.begun table.old }
-    ensures later { T.faults table.old ≤ T.faults table.new }
-    ensures failed { result ≡ Err StepFault.Table → Rose (T.faults table.old) (T.faults table.new) }
-{
-    let found = table.select(wanted)?;
-    Ok(selected_text(alloc, config, cond, names, &found)?)
-}
-
-// Of the rows that the table handed out, those that the condition selects.
-fn selected_text(
+// Of the rows that the table returned, those that the condition selects.
+fn selection_text(
     alloc: Global,
     config: &Config,
     cond: &Cond,
@@ -126,7 +112,7 @@ fn selected_text(
     found: &[Item],
 ) -> Result<Vec<u8>, Memory>
     requires { IsAskedBy config.now (condition_of cond.now) (option_map (λ n. n.now) names) }
-    ensures { IfOk result (λ text. text.items ≡ selected_text config.now (condition_of cond.now) found.now) }
+    ensures { IfOk result (λ text. (e : Environment) (s : State) → config.now ≡ e.config → text.items ≡ selection_text e s (condition_of cond.now) found.now) }
 {
     let mut text = Vec::new(alloc);
     let mut count = 0u64;

@@ -1,5 +1,6 @@
 -- Lawful keys that are equal are one key.
-use Rattle.std.proofs.Common.{◌≡◌, ◌∙◌, ℕ, ◌&&◌, Bool, true, false, List, Option, Some, None, refl, sym, ap, subst, Ordering, Less, Equal, Greater}
+use Rattle.std.proofs.Common.{◌≡◌, ◌∙◌, ℕ, ◌&&◌, Bool, true, false, List, Option, Some, None, refl, sym, ap, subst}
+use Rattle.std.proofs.Common.{Ordering, Less, Equal, Greater}
 use Rattle.std.specs.Ordering.{ordering_then}
 use Rattle.std.specs.Option.{option_cmp}
 use Rattle.std.proofs.lemmas.Map.Lookups.{exact_bytes, exact_signed}
@@ -76,10 +77,12 @@ same_texts x y h = ap v.text (exact_bytes x y (then_equal _ _ h).0)
 same_binaries : (x y : List ℕ) → value_order (v.binary x) (v.binary y) ≡ Equal → v.binary x ≡ v.binary y
 same_binaries x y h = ap v.binary (exact_bytes x y (then_equal _ _ h).0)
 
-same_numbers : OneNumber → (x y : Decimal) → IsNormal x → IsNormal y → value_order (v.number x) (v.number y) ≡ Equal → v.number x ≡ v.number y
+same_numbers : OneNumber → (x y : Decimal) → IsNormal x → IsNormal y → value_order (v.number x) (v.number y) ≡ Equal →
+    v.number x ≡ v.number y
 same_numbers one x y p q h = ap v.number (one x y p q (exact_signed (units x) (units y) h))
 
-same_value : OneNumber → (most : ℕ) (k : KeyKind) (a b : Val) → fits_key most k a ≡ true → fits_key most k b ≡ true → IsNormalValue a → IsNormalValue b → value_order a b ≡ Equal → a ≡ b
+same_value : OneNumber → (most : ℕ) (k : KeyKind) (a b : Val) → fits_key most k a ≡ true → fits_key most k b ≡ true →
+    IsNormalValue a → IsNormalValue b → value_order a b ≡ Equal → a ≡ b
 same_value one most kind.S a b f g p q h =
     let x = is_text most a f in
     let y = is_text most b g in
@@ -87,13 +90,16 @@ same_value one most kind.S a b f g p q h =
 same_value one most kind.N a b f g p q h =
     let x = is_number most a f in
     let y = is_number most b g in
-    x.1 ∙ same_numbers one x.0 y.0 (subst IsNormalValue x.1 p) (subst IsNormalValue y.1 q) (sym (ap (λ u. value_order u b) x.1 ∙ ap (value_order (v.number x.0)) y.1) ∙ h) ∙ sym y.1
+    x.1 ∙ same_numbers one x.0 y.0 (subst IsNormalValue x.1 p) (subst IsNormalValue y.1 q)
+    (sym (ap (λ u. value_order u b) x.1 ∙ ap (value_order (v.number x.0)) y.1) ∙ h) ∙ sym y.1
 same_value one most kind.B a b f g p q h =
     let x = is_binary most a f in
     let y = is_binary most b g in
-    x.1 ∙ same_binaries x.0 y.0 (sym (ap (λ u. value_order u b) x.1 ∙ ap (value_order (v.binary x.0)) y.1) ∙ h) ∙ sym y.1
+    x.1 ∙ same_binaries x.0 y.0 (sym (ap (λ u. value_order u b) x.1 ∙ ap (value_order (v.binary x.0)) y.1) ∙ h) ∙
+    sym y.1
 
-same_sort : OneNumber → (name : Option KeyName) (s t : Option Val) → fits_sort name s ≡ true → fits_sort name t ≡ true → IsNormalSort s → IsNormalSort t → option_cmp value_order s t ≡ Equal → s ≡ t
+same_sort : OneNumber → (name : Option KeyName) (s t : Option Val) → fits_sort name s ≡ true →
+    fits_sort name t ≡ true → IsNormalSort s → IsNormalSort t → option_cmp value_order s t ≡ Equal → s ≡ t
 same_sort one None None None f g p q h = refl
 same_sort one None None (Some t) f g p q h = absurd (no g)
 same_sort one None (Some s) t f g p q h = absurd (no f)
@@ -106,7 +112,8 @@ and_true true t h = (refl, h)
 and_true false true h = (h, refl)
 and_true false false h = (h, h)
 
-pub same_key : OneNumber → (schema : KeySchema) (j k : Val × Option Val) → is_lawful_key schema j ≡ true → is_lawful_key schema k ≡ true → IsNormalKey j → IsNormalKey k → key_order j k ≡ Equal → j ≡ k
+pub same_key : OneNumber → (schema : KeySchema) (j k : Val × Option Val) → is_lawful_key schema j ≡ true →
+    is_lawful_key schema k ≡ true → IsNormalKey j → IsNormalKey k → key_order j k ≡ Equal → j ≡ k
 same_key one schema j k f g p q h =
     let lawful = and_true (fits_key 2048 schema.partition.kind j.0) (fits_sort schema.sort j.1) f in
     let lawful_k = and_true (fits_key 2048 schema.partition.kind k.0) (fits_sort schema.sort k.1) g in

@@ -1,5 +1,6 @@
 -- The rows of a table, in key order (this project's own).
-use Rattle.std.specs.Prelude.{◌≡◌, ℕ, ◌+◌, ◌^◌, ◌-◌, min, max, true, List, [], ◌∷◌, filter, Option, Some, None, if◌then◌else◌}
+use Rattle.std.specs.Prelude.{◌≡◌, ℕ, ◌+◌, ◌^◌, ◌-◌, min, max, true, List, [], ◌∷◌, filter, Option, Some, None}
+use Rattle.std.specs.Prelude.{if◌then◌else◌}
 use Rattle.std.specs.List.{All}
 use Rattle.std.specs.List.Sorted.{IsStrictlySortedBy}
 use Rattle.std.specs.Ordering.{match_ordering, is_eq}
@@ -22,7 +23,8 @@ pub record IsTable (schema : KeySchema) (rows : List Row) : Type 0 where
 -- the row in place of the one of its key, else where its key belongs
 abbrev pub put_row : KeySchema → Row → List Row → List Row
 put_row schema row [] = row ∷ []
-put_row schema row (other ∷ others) = match_ordering (row_order schema row other) (row ∷ other ∷ others) (row ∷ others) (other ∷ put_row schema row others)
+put_row schema row (other ∷ others) = match_ordering (row_order schema row other) (row ∷ other ∷ others)
+    (row ∷ others) (other ∷ put_row schema row others)
 
 -- the row that has a key
 abbrev pub row_at : KeySchema → Val × Option Val → List Row → Option Row

@@ -26,4 +26,6 @@ pub fn a_put_row_is_found()
 /// The key of a row is lawful.
 pub fn a_read_key_is_lawful()
     ensures { (schema : the_schema) (row : Row) (key : Val × Option Val) → row_key schema row ≡ Ok key → is_lawful_key schema key ≡ true }
-{}
+{
+    dbe_values::a_read_key_is_lawful();
+}

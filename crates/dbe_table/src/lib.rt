@@ -1,6 +1,8 @@
 //! Tables: rows under keys, in key order, and a table in memory.
 #![tactic(auto)]
 
+mod key_order;
+mod keyed_rows;
 pub mod laws;
 mod mem_table;
 mod table;

@@ -1,10 +1,11 @@
-ghost use Rattle.std.specs.Prelude.{◌≡◌, ◌≤◌, ℕ, List, Some, None, true, Ok, IfSome, IfOk, OnOk, OnErr, IsSome, length};
+ghost use Rattle.std.specs.Prelude.{◌≡◌, ℕ, List, Some, None, true, Ok, IfSome, IfOk, OnOk, OnErr, IsSome, length};
 ghost use Rattle.std.specs.List.{All};
 ghost use Rattle.std.specs.declared.option.Option.{Option};
-ghost use Rattle.dbe_io.specs.Causes.{Rose};
+ghost use Rattle.dbe_io.specs.Causes.{HasCause};
 ghost use Rattle.dbe_values.specs.declared.key.KeySchema.{KeySchema};
 ghost use Rattle.dbe_values.specs.Keys.{has_key, is_lawful_key, row_key};
 ghost use Rattle.dbe_values.specs.KeyValues.{key_view};
+ghost use Rattle.dbe_table.specs.Faults.{is_failed};
 ghost use Rattle.dbe_table.specs.Rows.{Row, IsTable, put_row, row_at, wanted_rows, risen, found_count};
 
 use dbe_cond::Wanted;
@@ -50,26 +51,28 @@ pub trait Table {
     /// How often it has failed. The count stays at its greatest value.
     ghost faults: { Self → ℕ };
 
-    /// Begins, with the schema of the rows' keys. The table must not have begun yet. Where it is Ok the
-    /// rows are those that the table told for this schema: rows with lawful keys, each key once, in
-    /// key order. `given` stays as it was.
+    /// Begins, with the schema of the rows' keys. The table must not have begun yet. Where it is Ok,
+    /// and the table tells what is coming, the rows are those that it told for this schema. The rows
+    /// that it tells from then on are rows with lawful keys, each key once, in key order. `given`
+    /// stays as it was.
     ///
-    /// `Failed`: the table failed in this call, which `faults` counts. `Memory`: memory ran out.
-    /// After either the table has not begun, and need tell nothing of its rows.
+    /// `Failed`: the table failed in this call. `faults` rises then, and in no other case.
+    /// `Memory`: memory ran out. After either the table has not begun, and need tell nothing of its
+    /// rows.
     fn begin(&mut self, schema: &KeySchema) -> Result<(), TableFault>
         requires { begun self.old ≡ None }
         ensures begun { OnOk result (begun self.new ≡ Some schema.now) }
         ensures not_begun { OnErr result (begun self.new ≡ None) }
-        ensures rows { OnOk result (rows self.new ≡ coming self.old schema.now) }
+        ensures rows { OnOk result (IfSome (coming self.old schema.now) (λ told. rows self.new ≡ Some told)) }
         ensures lawful { OnOk result (IfSome (rows self.new) (IsTable schema.now)) }
         ensures given { given self.new ≡ given self.old }
-        ensures later { faults self.old ≤ faults self.new }
-        ensures failed { result ≡ Err TableFault.Failed → Rose (faults self.old) (faults self.new) };
+        ensures cause { HasCause (is_failed result) (faults self.old) (faults self.new) };
 
     /// Puts a row in place of the one of its key, or where its key belongs. The table must have begun,
     /// and the row must have a lawful key for its schema. `given` stays as it was.
     ///
-    /// `Failed`: the table failed in this call, which `faults` counts. `Memory`: memory ran out.
+    /// `Failed`: the table failed in this call. `faults` rises then, and in no other case.
+    /// `Memory`: memory ran out.
     /// After either the rows are as before.
     fn put(&mut self, row: Item) -> Result<(), TableFault>
         requires begun { IsSome (begun self.old) }
@@ -78,14 +81,14 @@ pub trait Table {
         ensures rows { OnOk result (IfSome (begun self.old) (λ schema. IfSome (rows self.old) (λ before. rows self.new ≡ Some (put_row schema row before)))) }
         ensures same { OnErr result (rows self.new ≡ rows self.old) }
         ensures given { given self.new ≡ given self.old }
-        ensures later { faults self.old ≤ faults self.new }
-        ensures failed { result ≡ Err TableFault.Failed → Rose (faults self.old) (faults self.new) };
+        ensures cause { HasCause (is_failed result) (faults self.old) (faults self.new) };
 
     /// The row that has a key, or none where no row has it. The table must have begun, and the key must
     /// be lawful for its schema. The rows stay as they were, and `given` rises by one where a row is
     /// answered. Whatever the table tells, that row has the key.
     ///
-    /// `Failed`: the table failed in this call, which `faults` counts. `Memory`: memory ran out.
+    /// `Failed`: the table failed in this call. `faults` rises then, and in no other case.
+    /// `Memory`: memory ran out.
     /// After either `given` is as before.
     fn get(&mut self, key: &KeyValue) -> Result<Option<Item>, TableFault>
         requires begun { IsSome (begun self.old) }
@@ -96,14 +99,14 @@ pub trait Table {
         ensures same { rows self.new ≡ rows self.old }
         ensures given { IfOk result (λ found. given self.new ≡ risen (given self.old) (found_count found)) }
         ensures not_given { OnErr result (given self.new ≡ given self.old) }
-        ensures later { faults self.old ≤ faults self.new }
-        ensures failed { result ≡ Err TableFault.Failed → Rose (faults self.old) (faults self.new) };
+        ensures cause { HasCause (is_failed result) (faults self.old) (faults self.new) };
 
     /// The rows that are wanted, in key order. The table must have begun. Its rows stay as they were,
     /// and `given` rises by the number of rows answered. Whatever the table tells, each of them has a
     /// lawful key.
     ///
-    /// `Failed`: the table failed in this call, which `faults` counts. `Memory`: memory ran out.
+    /// `Failed`: the table failed in this call. `faults` rises then, and in no other case.
+    /// `Memory`: memory ran out.
     /// After either `given` is as before.
     fn select(&mut self, wanted: &Wanted) -> Result<Vec<Item>, TableFault>
         requires { IsSome (begun self.old) }
@@ -113,6 +116,5 @@ pub trait Table {
         ensures same { rows self.new ≡ rows self.old }
         ensures given { IfOk result (λ found. given self.new ≡ risen (given self.old) (length found.items)) }
         ensures not_given { OnErr result (given self.new ≡ given self.old) }
-        ensures later { faults self.old ≤ faults self.new }
-        ensures failed { result ≡ Err TableFault.Failed → Rose (faults self.old) (faults self.new) };
+        ensures cause { HasCause (is_failed result) (faults self.old) (faults self.new) };
 }

@@ -21,7 +21,8 @@ range_of (o.Value span) = span
 
 -- some bytes of the text, all of ASCII
 abbrev pub is_range : List ℕ → Span → Bool
-is_range text span = nat_lt span.start span.end && nat_le span.end (length text) && list_all is_ascii (bytes_in text span)
+is_range text span = nat_lt span.start span.end && nat_le span.end (length text) && list_all is_ascii
+    (bytes_in text span)
 
 abbrev pub has_range : List ℕ → Token → Bool
 has_range text (t.Operand a) = is_range text (range_of a)

@@ -1,5 +1,6 @@
 -- A text cut into tokens (this project's own).
-use Rattle.std.specs.Prelude.{◌≡◌, ◌≢◌, ℕ, ◌+◌, ◌-◌, ◌==◌, ◌||◌, IsTrue, true, false, List, [], ◌∷◌, ◌++◌, length, take, drop, Some, None, Result, Ok, Err, ⊤}
+use Rattle.std.specs.Prelude.{◌≡◌, ◌≢◌, ℕ, ◌+◌, ◌-◌, ◌==◌, ◌||◌, IsTrue, true, false, List, [], ◌∷◌, ◌++◌, length}
+use Rattle.std.specs.Prelude.{take, drop, Some, None, Result, Ok, Err, ⊤}
 use Rattle.std.specs.List.{list_all}
 use Rattle.dbe_tokens.specs.declared.token.Token.{Token}
 use Rattle.dbe_tokens.specs.declared.token.Span.{Span}
@@ -25,13 +26,15 @@ pub record IsGap (at : ℕ) (text : List ℕ) (end : ℕ) (back : List ℕ) : Ty
   pub spaces : list_all is_space gap ≡ true
   pub place : end ≡ at + length gap
 
--- The text, whose place is `at`, is these tokens at these starts with spaces between them, up to `back`, whose place is `end`.
+-- The text, whose place is `at`, is these tokens at these starts with spaces between them, up to `back`, whose place
+-- is `end`.
 abbrev pub AreTokens : ℕ → List ℕ → List Token → List ℕ → ℕ → List ℕ → Type 0
 AreTokens at text [] [] end back = IsGap at text end back
 AreTokens at text [] (start ∷ starts) end back = ⊥
 AreTokens at text (token ∷ tokens) [] end back = ⊥
 AreTokens at text (token ∷ tokens) (start ∷ starts) end back =
-    (here front next : List ℕ) × IsGap at text start here × IsLongest start here token front next × AreTokens (start + length front) next tokens starts end back
+    (here front next : List ℕ) × IsGap at text start here × IsLongest start here token front next ×
+    AreTokens (start + length front) next tokens starts end back
 
 -- the end, a space, a parenthesis or a comma: no token goes on with it
 abbrev pub EndsToken : List ℕ → Type 0

@@ -1,5 +1,6 @@
 -- What is known of bytes and values that were read.
-use Rattle.std.proofs.Common.{◌≡◌, ℕ, suc, ◌≢◌, List, [], ◌∷◌, Bool, true, false, None, Some, refl, ap, ◌∙◌, length, if◌then◌else◌, String, Global}
+use Rattle.std.proofs.Common.{◌≡◌, ℕ, suc, ◌≢◌, List, [], ◌∷◌, Bool, true, false, None, Some, refl, ap, ◌∙◌, length}
+use Rattle.std.proofs.Common.{if◌then◌else◌, String, Global}
 use Rattle.std.specs.Str.{IsUtf8, is_utf8}
 use Rattle.std.proofs.lemmas.Str.{is_utf8-from_IsUtf8, IsUtf8-from_is_utf8}
 use Rattle.serde_json.specs.Data.{Members, no_members, member, Data, null, boolean, number, string, array, object}
@@ -14,7 +15,8 @@ use Rattle.dbe_values.specs.Json.{json_of, size_of}
 pub json_known : (bytes : List ℕ) (d : Data) → IsUtf8 bytes × (read bytes ≡ Some d) → json_of bytes ≡ Some d
 json_known bytes d h = rw (is_utf8-from_IsUtf8 bytes h.0) h.1
 
-none_at : (bytes : List ℕ) (b : Bool) → is_utf8 bytes ≡ b → (IsUtf8 bytes → read bytes ≡ None) → (if b then read bytes else None) ≡ None
+none_at : (bytes : List ℕ) (b : Bool) → is_utf8 bytes ≡ b → (IsUtf8 bytes → read bytes ≡ None) →
+    (if b then read bytes else None) ≡ None
 none_at bytes true e h = h (IsUtf8-from_is_utf8 bytes e)
 none_at bytes false e h = refl
 
@@ -28,7 +30,8 @@ pub members_len-view : (es : List (String Global × Value)) → members_len (mem
 members_len-view [] = refl
 members_len-view (e ∷ es) = ap suc (members_len-view es)
 
-pub size_of_object : (d : Data) (es : List (String Global × Value)) → as_object d ≡ Some (members_view es) → size_of d ≡ length es
+pub size_of_object : (d : Data) (es : List (String Global × Value)) → as_object d ≡ Some (members_view es) →
+    size_of d ≡ length es
 size_of_object null es is = (cc)
 size_of_object (boolean b) es is = (cc)
 size_of_object (number n) es is = (cc)

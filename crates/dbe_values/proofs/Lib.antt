@@ -13,3 +13,4 @@ pub mod LawfulReads
 pub mod LawfulValues
 pub mod Lookups
 pub mod ReadAgain
+pub mod Depths

@@ -15,16 +15,23 @@ pub elements_apart : (xs ys : List (List ℕ)) → length xs ≢ length ys → f
 elements_apart [] [] h = absurd (h refl)
 elements_apart [] (y ∷ ys) h = refl
 elements_apart (x ∷ xs) [] h = refl
-elements_apart (x ∷ xs) (y ∷ ys) h = sym (and_false (bytes_eq x y) (same_elements xs ys) (sym (elements_apart xs ys (λ e. h (ap suc e)))))
+elements_apart (x ∷ xs) (y ∷ ys) h =
+    sym (and_false (bytes_eq x y) (same_elements xs ys) (sym (elements_apart xs ys (λ e. h (ap suc e)))))
 
-pub vals_apart : (xs ys : List AttrValue) → length xs ≢ length ys → false ≡ same_vals (vals_of (map view xs)) (vals_of (map view ys))
+pub vals_apart : (xs ys : List AttrValue) → length xs ≢ length ys →
+    false ≡ same_vals (vals_of (map view xs)) (vals_of (map view ys))
 vals_apart [] [] h = absurd (h refl)
 vals_apart [] (y ∷ ys) h = refl
 vals_apart (x ∷ xs) [] h = refl
-vals_apart (x ∷ xs) (y ∷ ys) h = sym (and_false (same (view x) (view y)) (same_vals (vals_of (map view xs)) (vals_of (map view ys))) (sym (vals_apart xs ys (λ e. h (ap suc e)))))
+vals_apart (x ∷ xs) (y ∷ ys) h =
+    sym (and_false (same (view x) (view y)) (same_vals (vals_of (map view xs)) (vals_of (map view ys)))
+    (sym (vals_apart xs ys (λ e. h (ap suc e)))))
 
-pub entries_apart : (xs ys : List (List ℕ × AttrValue)) → length xs ≢ length ys → false ≡ same_entries (entries_of (map entry_view xs)) (entries_of (map entry_view ys))
+pub entries_apart : (xs ys : List (List ℕ × AttrValue)) → length xs ≢ length ys →
+    false ≡ same_entries (entries_of (map entry_view xs)) (entries_of (map entry_view ys))
 entries_apart [] [] h = absurd (h refl)
 entries_apart [] (y ∷ ys) h = refl
 entries_apart (x ∷ xs) [] h = refl
-entries_apart (x ∷ xs) (y ∷ ys) h = sym (and_false (bytes_eq x.0 y.0 && same (view x.1) (view y.1)) (same_entries (entries_of (map entry_view xs)) (entries_of (map entry_view ys))) (sym (entries_apart xs ys (λ e. h (ap suc e)))))
+entries_apart (x ∷ xs) (y ∷ ys) h =
+    sym (and_false (bytes_eq x.0 y.0 && same (view x.1) (view y.1)) (same_entries (entries_of (map entry_view xs))
+    (entries_of (map entry_view ys))) (sym (entries_apart xs ys (λ e. h (ap suc e)))))

@@ -8,22 +8,26 @@ use Rattle.dbe_values.specs.View.{view, view_step, vals_of, entries_of, entry_vi
 use Rattle.dbe_values.specs.declared.value.AttrValue.{AttrValue, L, M, roll-AttrValue}
 use Rattle.dbe_values.specs.declared.value.AttrValue.TheOpen.{AttrValue-F}
 use Rattle.dbe_values.specs.declared.value.AttrValue.TheFolds.{ind-AttrValue, map-AttrValue, fold-roll-AttrValue}
-use Rattle.dbe_values.specs.declared.value.AttrValue.TheVariants.{rolls-S, rolls-N, rolls-B, rolls-Bool, rolls-Null, rolls-Ss, rolls-Ns, rolls-Bs, rolls-L, rolls-M}
+use Rattle.dbe_values.specs.declared.value.AttrValue.TheVariants.{rolls-S, rolls-N, rolls-B, rolls-Bool, rolls-Null}
+use Rattle.dbe_values.specs.declared.value.AttrValue.TheVariants.{rolls-Ss, rolls-Ns, rolls-Bs, rolls-L, rolls-M}
 use Rattle.dbe_values.proofs.Views.{view-L, view-M}
 
 abbrev IsSeen : AttrValue → Type 0
 IsSeen a = attr_of (view a) ≡ a
 
-seen_values : (vs : List ((a : AttrValue) × IsSeen a)) → attrs_of (vals_of (map view (map (λ e. e.0) vs))) ≡ map (λ e. e.0) vs
+seen_values : (vs : List ((a : AttrValue) × IsSeen a)) → attrs_of (vals_of (map view (map (λ e. e.0) vs))) ≡ map
+    (λ e. e.0) vs
 seen_values [] = refl
 seen_values (e ∷ vs) = rw (e.1, seen_values vs) refl
 
-seen_entries : (es : List (List ℕ × ((a : AttrValue) × IsSeen a))) → attributes_of (entries_of (map entry_view (map (λ e. (e.0, e.1.0)) es))) ≡ map (λ e. (e.0, e.1.0)) es
+seen_entries : (es : List (List ℕ × ((a : AttrValue) × IsSeen a))) →
+    attributes_of (entries_of (map entry_view (map (λ e. (e.0, e.1.0)) es))) ≡ map (λ e. (e.0, e.1.0)) es
 seen_entries [] = refl
 seen_entries (e ∷ es) = rw (e.1.1, seen_entries es) refl
 
 -- a layer, each value inside with the proof that it is seen
-seen_layer : (y : AttrValue-F ((a : AttrValue) × IsSeen a)) → IsSeen (roll-AttrValue (map-AttrValue ((a : AttrValue) × IsSeen a) AttrValue (λ e. e.0) y))
+seen_layer : (y : AttrValue-F ((a : AttrValue) × IsSeen a)) →
+    IsSeen (roll-AttrValue (map-AttrValue ((a : AttrValue) × IsSeen a) AttrValue (λ e. e.0) y))
 unfolding roll-AttrValue denote.Hole.Carrier.roll
 seen_layer (AttrValue-F.S t) = ap attr_of (fold-roll-AttrValue Val view_step (AttrValue-F.S t)) ∙ rolls-S t
 seen_layer (AttrValue-F.N t) = ap attr_of (fold-roll-AttrValue Val view_step (AttrValue-F.N t)) ∙ rolls-N t
@@ -33,8 +37,11 @@ seen_layer AttrValue-F.Null = ap attr_of (fold-roll-AttrValue Val view_step Attr
 seen_layer (AttrValue-F.Ss t) = ap attr_of (fold-roll-AttrValue Val view_step (AttrValue-F.Ss t)) ∙ rolls-Ss t
 seen_layer (AttrValue-F.Ns t) = ap attr_of (fold-roll-AttrValue Val view_step (AttrValue-F.Ns t)) ∙ rolls-Ns t
 seen_layer (AttrValue-F.Bs t) = ap attr_of (fold-roll-AttrValue Val view_step (AttrValue-F.Bs t)) ∙ rolls-Bs t
-seen_layer (AttrValue-F.L vs) = ap attr_of (fold-roll-AttrValue Val view_step (AttrValue-F.L (map (λ e. e.0) vs))) ∙ ap L (seen_values vs) ∙ rolls-L (map (λ e. e.0) vs)
-seen_layer (AttrValue-F.M es) = ap attr_of (fold-roll-AttrValue Val view_step (AttrValue-F.M (map (λ e. (e.0, e.1.0)) es))) ∙ ap M (seen_entries es) ∙ rolls-M (map (λ e. (e.0, e.1.0)) es)
+seen_layer (AttrValue-F.L vs) = ap attr_of (fold-roll-AttrValue Val view_step (AttrValue-F.L (map (λ e. e.0) vs))) ∙
+    ap L (seen_values vs) ∙ rolls-L (map (λ e. e.0) vs)
+seen_layer (AttrValue-F.M es) =
+    ap attr_of (fold-roll-AttrValue Val view_step (AttrValue-F.M (map (λ e. (e.0, e.1.0)) es))) ∙
+    ap M (seen_entries es) ∙ rolls-M (map (λ e. (e.0, e.1.0)) es)
 
 pub attr_of-view : (a : AttrValue) → IsSeen a
 attr_of-view = ind-AttrValue IsSeen (λ x y is. subst (λ z. IsSeen (roll-AttrValue z)) is (seen_layer y))

@@ -19,7 +19,10 @@ value_at name (a ∷ others) = if bytes_eq a.0 name then Some a.1 else value_at 
 -- the attributes with a value at a name, in place of an older one
 abbrev pub put_at : List ℕ → AttrValue → List (List ℕ × AttrValue) → List (List ℕ × AttrValue)
 put_at name value [] = (name, value) ∷ []
-put_at name value (a ∷ others) = match_ordering (slice_cmp nat_cmp name a.0) ((name, value) ∷ a ∷ others) ((name, value) ∷ others) (a ∷ put_at name value others)
+put_at name value (a ∷ others) = match_ordering (slice_cmp nat_cmp name a.0) ((name, value) ∷ a ∷ others) ((
+  name,
+  value,
+) ∷ others) (a ∷ put_at name value others)
 
 -- the attributes without a name
 abbrev pub without : List ℕ → List (List ℕ × AttrValue) → List (List ℕ × AttrValue)

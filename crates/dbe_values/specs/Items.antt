@@ -9,7 +9,8 @@ use Rattle.dbe_values.specs.Attributes.{is_name}
 use Rattle.dbe_values.specs.Reading.{value_in}
 use Rattle.dbe_values.specs.declared.value.AttrValue.{AttrValue}
 use Rattle.dbe_values.specs.declared.fault.ValueFault.{ValueFault}
-use Rattle.dbe_values.specs.declared.fault.ValueFault.TheVariants.{Shape, BadNumber, BadBase64, EmptySet, DoubledElement, TooDeep, BadName, Memory}
+use Rattle.dbe_values.specs.declared.fault.ValueFault.TheVariants.{Shape, BadNumber, BadBase64, EmptySet}
+use Rattle.dbe_values.specs.declared.fault.ValueFault.TheVariants.{DoubledElement, TooDeep, BadName, Memory}
 use Rattle.dbe_values.specs.declared.fault.ItemFault.{ItemFault}
 use Rattle.dbe_values.specs.declared.fault.ItemFault.TheVariants.{NotObject, At}
 

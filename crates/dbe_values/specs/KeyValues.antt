@@ -17,7 +17,8 @@ abbrev pub key_view : KeyValue → Val × Option Val
 key_view k = (view k.partition, option_map view k.sort)
 
 -- the key that was found, or the name at which there is none
-abbrev pub key_found : Result (Bor AttrValue × Option (Bor AttrValue)) (Bor (List ℕ)) → Result (Val × Option Val) (List ℕ)
+abbrev pub key_found : Result (Bor AttrValue × Option (Bor AttrValue)) (Bor (List ℕ)) →
+    Result (Val × Option Val) (List ℕ)
 key_found (Ok k) = Ok (view k.0.now, option_map (λ value. view value.now) k.1)
 key_found (Err name) = Err name.now
 
@@ -33,10 +34,13 @@ keys_cmp = on key_view key_order
 
 -- the order of keys is an order
 value_order-total : IsTotalOrder value_order
-value_order-total = then_total (on_total type_rank nat_cmp_total) (then_total (on_total key_bytes (lists_total nat_cmp_total)) (on_total key_units int_cmp_total))
+value_order-total =
+    then_total (on_total type_rank nat_cmp_total) (then_total (on_total key_bytes (lists_total nat_cmp_total))
+    (on_total key_units int_cmp_total))
 
 pub key_order-total : IsTotalOrder key_order
-key_order-total = then_total (on_total (λ k. k.0) value_order-total) (on_total (λ k. k.1) (options_total value_order-total))
+key_order-total = then_total (on_total (λ k. k.0) value_order-total)
+    (on_total (λ k. k.1) (options_total value_order-total))
 
 pub keys_cmp-total : IsTotalOrder keys_cmp
 keys_cmp-total = on_total key_view key_order-total

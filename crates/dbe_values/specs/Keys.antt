@@ -1,5 +1,6 @@
 -- The key of a row, and the order of rows (Amazon DynamoDB Developer Guide, "Service, account, and table quotas").
-use Rattle.std.specs.Prelude.{ℕ, ℤ, pos, ◌&&◌, Bool, true, false, List, [], length, nat_lt, nat_le, Option, Some, None, is_ok, Result, Ok, Err, if◌then◌else◌}
+use Rattle.std.specs.Prelude.{ℕ, ℤ, pos, ◌&&◌, Bool, true, false, List, [], length, nat_lt, nat_le, Option, Some}
+use Rattle.std.specs.Prelude.{None, is_ok, Result, Ok, Err, if◌then◌else◌}
 use Rattle.std.specs.Ordering.{nat_cmp, int_cmp, then_cmp, on}
 use Rattle.std.specs.Option.{option_cmp}
 use Rattle.std.specs.Result.{result_err}
@@ -59,12 +60,18 @@ key_fault schema row = result_err (row_key schema row)
 abbrev pub has_key : KeySchema → List (List ℕ × AttrValue) → Bool
 has_key schema row = is_ok (row_key schema row)
 
--- a type's place among the types of keys; all others come last
+-- a type's place among the types: those of keys first, and each other one behind them
 abbrev pub type_rank : Val → ℕ
 type_rank (v.text x) = 0
 type_rank (v.number x) = 1
 type_rank (v.binary x) = 2
-type_rank _ = 3
+type_rank (v.boolean x) = 3
+type_rank v.nothing = 4
+type_rank (v.texts xs) = 5
+type_rank (v.numbers xs) = 6
+type_rank (v.binaries xs) = 7
+type_rank (v.list xs) = 8
+type_rank (v.map es) = 9
 
 -- the bytes of a text or a binary
 abbrev pub key_bytes : Val → List ℕ

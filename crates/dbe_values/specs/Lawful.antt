@@ -2,28 +2,16 @@
 use Rattle.std.specs.Prelude.{◌≡◌, ℕ, zero, suc, ◌<◌, true, List, [], ◌∷◌, map}
 use Rattle.std.specs.List.{All}
 use Rattle.std.specs.Str.{IsUtf8}
-use Rattle.dbe_num.specs.Decimal.{Decimal, IsNormal}
-use Rattle.dbe_num.specs.NormalText.{normal_text}
+use Rattle.dbe_num.specs.Decimal.{IsNormal}
 use Rattle.dbe_values.specs.Val as v
 use Rattle.dbe_values.specs.Val.{Val, Vals, Entries}
 use Rattle.dbe_values.specs.View.{view}
-use Rattle.dbe_values.specs.Sets.{IsIncreasing, IsSet}
+use Rattle.dbe_values.specs.Sets.{IsIncreasing, IsNumberText, IsSetOf}
 use Rattle.dbe_values.specs.Attributes.{is_name}
 use Rattle.dbe_values.specs.declared.value.AttrValue.{AttrValue}
 
 abbrev pub AreBytes : List ℕ → Type 0
 AreBytes = All (λ b. b < 256)
-
--- the one text of a number
-pub record IsNumberText (text : List ℕ) : Type 0 where
-  pub number : Decimal
-  pub normal : IsNormal number
-  pub written : text ≡ normal_text number
-
--- a set of elements that each have a property
-pub record IsSetOf (P : List ℕ → Type 0) (elements : List (List ℕ)) : Type 0 where
-  pub set : IsSet elements
-  pub each : All P elements
 
 abbrev pub entry_names : Entries → List (List ℕ)
 entry_names v.no_entries = []

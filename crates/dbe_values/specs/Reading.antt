@@ -1,8 +1,10 @@
 -- The value that a JSON value spells (DynamoDB JSON: an object with one member that names the type), or the
 -- first fault of the walk through it, which is this project's own.
-use Rattle.std.specs.Prelude.{ℕ, zero, suc, Bool, true, false, List, [], Option, Some, None, Result, Ok, Err, codes, if◌then◌else◌}
+use Rattle.std.specs.Prelude.{ℕ, zero, suc, Bool, true, false, List, [], Option, Some, None, Result, Ok, Err, codes}
+use Rattle.std.specs.Prelude.{if◌then◌else◌}
 use Rattle.std.specs.Str.{bytes_eq}
-use Rattle.serde_json.specs.Data.{Data, null, boolean, number, string, array, object, Items, no_items, item, Members, no_members, member}
+use Rattle.serde_json.specs.Data.{Data, null, boolean, number, string, array, object, Items, no_items, item, Members}
+use Rattle.serde_json.specs.Data.{no_members, member}
 use Rattle.serde_json.specs.Find.{as_str, as_bool, as_array}
 use Rattle.base64.specs.GeneralPurpose.{decode_of}
 use Rattle.base64.specs.Engines.{standard}
@@ -14,7 +16,8 @@ use Rattle.dbe_values.specs.Val.{Val, Vals, Entries}
 use Rattle.dbe_values.specs.Sets.{placed}
 use Rattle.dbe_values.specs.Faults.{◌>>=◌, or_fault}
 use Rattle.dbe_values.specs.declared.fault.ValueFault.{ValueFault}
-use Rattle.dbe_values.specs.declared.fault.ValueFault.TheVariants.{Shape, BadNumber, BadBase64, EmptySet, DoubledElement, TooDeep}
+use Rattle.dbe_values.specs.declared.fault.ValueFault.TheVariants.{Shape, BadNumber, BadBase64, EmptySet}
+use Rattle.dbe_values.specs.declared.fault.ValueFault.TheVariants.{DoubledElement, TooDeep}
 use Rattle.dbe_values.specs.declared.kind.Kind.{Kind}
 use Rattle.dbe_values.specs.declared.kind.Kind.TheVariants as kind
 
@@ -69,7 +72,8 @@ abbrev pub number_text_in : Data → Result (List ℕ) ValueFault
 number_text_in d = number_in d >>= λ n. Ok (normal_text n)
 
 -- elements put among others, in order
-abbrev pub elements_after : (Data → Result (List ℕ) ValueFault) → List (List ℕ) → Items → Result (List (List ℕ)) ValueFault
+abbrev pub elements_after : (Data → Result (List ℕ) ValueFault) → List (List ℕ) → Items →
+    Result (List (List ℕ)) ValueFault
 elements_after element others no_items = Ok others
 elements_after element others (item d ds) =
     element d >>= λ x. or_fault DoubledElement (placed x others) >>= λ more. elements_after element more ds

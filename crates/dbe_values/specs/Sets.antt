@@ -3,11 +3,15 @@ use Rattle.std.specs.Prelude.{◌≡◌, ℕ, ◌<◌, ◌≤◌, List, [], ◌�
 use Rattle.std.specs.Ordering.{nat_cmp, match_ordering}
 use Rattle.std.specs.declared.cmp.Ordering.TheVariants.{Less, Greater}
 use Rattle.std.specs.Cmp.Lexicographic.{slice_cmp}
+use Rattle.std.specs.List.{All}
+use Rattle.dbe_num.specs.Decimal.{Decimal, IsNormal}
+use Rattle.dbe_num.specs.NormalText.{normal_text}
 
 -- an element among others, or none where it is there already
 abbrev pub placed : List ℕ → List (List ℕ) → Option (List (List ℕ))
 placed x [] = Some (x ∷ [])
-placed x (y ∷ ys) = match_ordering (slice_cmp nat_cmp x y) (Some (x ∷ y ∷ ys)) None (option_map (λ zs. y ∷ zs) (placed x ys))
+placed x (y ∷ ys) = match_ordering (slice_cmp nat_cmp x y) (Some (x ∷ y ∷ ys)) None (option_map (λ zs. y ∷ zs)
+    (placed x ys))
 
 -- each element is below those after it
 abbrev pub IsIncreasing : List (List ℕ) → Type 0
@@ -23,3 +27,14 @@ pub record IsGap (xs : List (List ℕ)) (x : List ℕ) (i : ℕ) : Type 0 where
 pub record IsSet (xs : List (List ℕ)) : Type 0 where
   pub some : 0 < length xs
   pub increasing : IsIncreasing xs
+
+-- the one text of a number
+pub record IsNumberText (text : List ℕ) : Type 0 where
+  pub number : Decimal
+  pub normal : IsNormal number
+  pub written : text ≡ normal_text number
+
+-- a set of elements that each have a property
+pub record IsSetOf (P : List ℕ → Type 0) (elements : List (List ℕ)) : Type 0 where
+  pub set : IsSet elements
+  pub each : All P elements

@@ -1,6 +1,7 @@
 -- The value that an `AttrValue` is.
 use Rattle.std.specs.Prelude.{ℕ, List, [], ◌∷◌}
-use Rattle.dbe_values.specs.Val.{Val, text, number, binary, boolean, nothing, texts, numbers, binaries, list, map, Vals, no_vals, val, Entries, no_entries, entry}
+use Rattle.dbe_values.specs.Val.{Val, text, number, binary, boolean, nothing, texts, numbers, binaries, list, map}
+use Rattle.dbe_values.specs.Val.{Vals, no_vals, val, Entries, no_entries, entry}
 use Rattle.dbe_values.specs.declared.value.AttrValue.{AttrValue, fold-AttrValue, S, N, B, Bool, Null, Ss, Ns, Bs, L, M}
 use Rattle.dbe_values.specs.declared.value.AttrValue.TheOpen.{AttrValue-F}
 

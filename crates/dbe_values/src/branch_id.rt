@@ -1,4 +1,4 @@
-ghost use Rattle.std.specs.Prelude.{◌≡◌, ◌≤◌, length, if◌then◌else◌, Some, None};
+ghost use Rattle.std.specs.Prelude.{◌≡◌, ◌≤◌, true, length, if◌then◌else◌, Some, None};
 ghost use Rattle.std.specs.List.{list_all};
 ghost use Rattle.dbe_values.specs.BranchIds.{is_branch_id, is_branch_byte};
 
@@ -14,13 +14,14 @@ pub struct BranchId {
 }
 
 impl Model for BranchId {
-    ghost use Rattle.std.specs.Prelude.{List, ℕ, ◌≤◌, take};
+    ghost use Rattle.std.specs.Prelude.{◌≡◌, List, ℕ, ◌≤◌, true, take};
+    ghost use Rattle.dbe_values.specs.BranchIds.{is_branch_id};
 
     ghost Value = { List ℕ };
 
     ghost view = { λ b. take b.len b.bytes };
 
-    ghost invariant = { λ b. b.len ≤ 64 };
+    ghost invariant = { λ b. (b.len ≤ 64) × (is_branch_id (take b.len b.bytes) ≡ true) };
 }
 
 impl BranchId {
@@ -35,8 +36,10 @@ impl BranchId {
         }
     }
 
+    /// The bytes. They are a branch id, which callers may rely on.
     pub fn as_bytes(&self) -> &[u8]
-        ensures { result.now ≡ self.now }
+        ensures bytes { result.now ≡ self.now }
+        ensures id { is_branch_id self.now ≡ true }
     {
         &self.bytes[..self.len]
     }
@@ -52,7 +55,8 @@ impl BranchId {
 }
 
 fn held(text: &[u8]) -> BranchId
-    requires { length text.now ≤ 64 }
+    requires fits { length text.now ≤ 64 }
+    requires id { is_branch_id text.now ≡ true }
     ensures { result ≡ text.now }
 {
     let mut bytes = [0; 64];

@@ -1,13 +1,13 @@
-ghost use Rattle.std.specs.Prelude.{◌≡◌, IfOk, option_map, Option};
+ghost use Rattle.std.specs.Prelude.{◌≡◌, IfOk, option_map, Option, true};
 ghost use Rattle.std.specs.Borrow.{Bor};
 ghost use Rattle.std.specs.Option.{option_cmp};
 ghost use Rattle.dbe_values.specs.View.{view};
 ghost use Rattle.dbe_values.specs.declared.value.AttrValue.{AttrValue};
-ghost use Rattle.dbe_values.specs.Keys.{has_length, fits_key, part_of, row_key, key_fault, type_rank, key_bytes, key_units, value_order, key_order};
+ghost use Rattle.dbe_values.specs.Keys.{has_length, fits_key, part_of, row_key, key_fault, type_rank, key_bytes, key_units, value_order, key_order, is_lawful_key};
 ghost use Rattle.dbe_num.specs.Decimal.{units};
 ghost use Rattle.dbe_values.specs.KeyValues.{key_view, key_found, GivesKey};
 
-use crate::{AttrValue, Item};
+use crate::{AttrValue, Item, a_read_key_is_lawful};
 use dbe_num::{Memory, Number, Text};
 use std::alloc::Global;
 use std::cmp::Ordering;
@@ -106,8 +106,10 @@ impl From<Memory> for KeyError {
 
 /// The key of an item.
 pub fn read_key(alloc: Global, schema: &KeySchema, item: &Item) -> Result<KeyValue, KeyError>
-    ensures { GivesKey result (row_key schema.now item.now) }
+    ensures gives { GivesKey result (row_key schema.now item.now) }
+    ensures lawful { IfOk result (λ key. is_lawful_key schema.now (key_view key) ≡ true) }
 {
+    a_read_key_is_lawful();
     match find_key(schema, item) {
         Ok((partition, sort)) => Ok(KeyValue {
             partition: partition.copy(alloc)?,
@@ -196,7 +198,7 @@ fn value_order(a: &AttrValue, b: &AttrValue) -> Ordering
         .then_with(|| key_number(a).compare(&key_number(b)))
 }
 
-// A type's place among the types of keys.
+// A type's place among the types: those of keys first.
 fn type_rank(value: &AttrValue) -> u8
     ensures { result ≡ type_rank (view value.now) }
 {
@@ -204,7 +206,13 @@ fn type_rank(value: &AttrValue) -> u8
         AttrValue::S(_) => 0,
         AttrValue::N(_) => 1,
         AttrValue::B(_) => 2,
-        _ => 3,
+        AttrValue::Bool(_) => 3,
+        AttrValue::Null => 4,
+        AttrValue::Ss(_) => 5,
+        AttrValue::Ns(_) => 6,
+        AttrValue::Bs(_) => 7,
+        AttrValue::L(_) => 8,
+        AttrValue::M(_) => 9,
     }
 }
 

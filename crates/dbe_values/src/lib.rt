@@ -14,8 +14,6 @@ mod read;
 mod read_item;
 mod read_value;
 mod sets;
-#[cfg(test)]
-mod tests;
 mod value;
 mod write;
 
@@ -24,7 +22,7 @@ pub use fault::{ItemFault, ValueFault};
 pub use item::Item;
 pub use json::{json_value, size_of};
 pub use key::{KeyError, KeyKind, KeyName, KeySchema, KeyValue, key_fault, key_order, read_key};
-pub use laws::{item_read_again, one_view, value_read_again};
+pub use laws::{a_read_key_is_lawful, item_read_again, one_view, value_read_again};
 pub use read_item::item_from_json;
 pub use read_value::from_json;
 pub use sets::{BytesSet, NumberSet, TextSet};

@@ -3,7 +3,7 @@ ghost use Rattle.std.specs.Borrow.{Bor};
 ghost use Rattle.serde_json.specs.View.{view as data_of, items_view, members_view};
 ghost use Rattle.serde_json.specs.Find.{as_array};
 ghost use Rattle.serde_json.specs.declared.value.Value.{Value};
-ghost use Rattle.dbe_values.specs.Sets.{IsIncreasing};
+ghost use Rattle.dbe_values.specs.Sets.{IsIncreasing, IsNumberText, IsSetOf};
 ghost use Rattle.dbe_values.specs.declared.fault.ValueFault.TheVariants as fault;
 ghost use Rattle.dbe_values.specs.Val as v;
 ghost use Rattle.dbe_values.specs.View.{view};
@@ -13,7 +13,7 @@ ghost use Rattle.dbe_values.specs.declared.kind.Kind.TheVariants as kind;
 ghost use Rattle.std.specs.List.{All};
 ghost use Rattle.std.specs.Str.{IsUtf8};
 ghost use Rattle.dbe_num.specs.Decimal.{IsNormal};
-ghost use Rattle.dbe_values.specs.Lawful.{AreBytes, IsNumberText, IsSetOf};
+ghost use Rattle.dbe_values.specs.Lawful.{AreBytes};
 
 use crate::kind::{Kind, kind_of};
 use crate::place::{ordered_binaries, ordered_texts, put_binary, put_text};

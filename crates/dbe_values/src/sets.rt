@@ -1,5 +1,5 @@
 ghost use Rattle.std.specs.Prelude.{◌≡◌, ◌<◌, ◌∷◌, [], IfOk, length, slice_get, Some};
-ghost use Rattle.dbe_values.specs.Sets.{IsSet};
+ghost use Rattle.dbe_values.specs.Sets.{IsNumberText, IsSet, IsSetOf};
 
 use dbe_num::{Bytes, Memory, Text};
 use sqlite_items::Items;
@@ -56,19 +56,19 @@ pub struct NumberSet {
 
 impl Model for NumberSet {
     ghost use Rattle.std.specs.Prelude.{List, ℕ};
-    ghost use Rattle.dbe_values.specs.Sets.{IsSet};
+    ghost use Rattle.dbe_values.specs.Sets.{IsNumberText, IsSetOf};
 
     ghost Value = { List (List ℕ) };
 
     ghost view = { λ s. s.elements };
 
-    ghost invariant = { λ s. IsSet s.elements };
+    ghost invariant = { λ s. IsSetOf IsNumberText s.elements };
 }
 
 impl NumberSet {
     /// Takes no memory.
     pub fn from_elements(elements: Items<Text>) -> NumberSet
-        requires { IsSet elements }
+        requires { IsSetOf IsNumberText elements }
         ensures { result ≡ elements }
     {
         NumberSet { elements }
@@ -76,7 +76,7 @@ impl NumberSet {
 
     pub fn elements(&self) -> &[Text]
         ensures elements { result.now ≡ self.now }
-        ensures set { IsSet self.now }
+        ensures set { IsSetOf IsNumberText self.now }
     {
         self.elements.as_slice()
     }

@@ -1,9 +1,12 @@
-ghost use Rattle.std.specs.Prelude.{◌≡◌, IfOk, map, string_bytes, codes, List, ℕ};
+ghost use Rattle.std.specs.Prelude.{◌≡◌, IfOk, map, option_map, string_bytes, codes, List, ℕ, Some, Ok};
+ghost use Rattle.std.specs.Str.{IsUtf8};
 ghost use Rattle.serde_json.specs.View.{view as data_of, items_view, members_view};
 ghost use Rattle.serde_json.specs.Data.{string, no_members};
 ghost use Rattle.serde_json.specs.Written.{compact_text};
 ghost use Rattle.dbe_values.specs.View.{view, vals_of, entries_of, entry_view};
 ghost use Rattle.dbe_values.specs.Writing.{tagged, base64_text, strings, base64_texts, value_data, vals_data, with_entries, item_data};
+ghost use Rattle.dbe_values.specs.Json.{json_of};
+ghost use Rattle.dbe_values.specs.Items.{item_in};
 
 use crate::{AttrValue, Item};
 use base64::engine::general_purpose::STANDARD;
@@ -135,8 +138,12 @@ pub fn item_to_json(alloc: Global, item: &Item) -> Result<Value, Memory>
 
 /// The compact JSON text of an item.
 pub fn item_text(alloc: Global, item: &Item) -> Result<Vec<u8>, Memory>
-    ensures { IfOk result (λ text. text.items ≡ compact_text (item_data item.now)) }
+    ensures text { IfOk result (λ text. text.items ≡ compact_text (item_data item.now)) }
+    ensures utf8 { IfOk result (λ text. IsUtf8 text.items) }
+    ensures json { IfOk result (λ text. json_of text.items ≡ Some (item_data item.now)) }
+    ensures reads_back { IfOk result (λ text. option_map item_in (json_of text.items) ≡ Some (Ok (entries_of (map entry_view item.now)))) }
 {
+    item.is_lawful();
     let value = item_to_json(alloc, item)?;
     Ok(value.to_vec(alloc)?)
 }

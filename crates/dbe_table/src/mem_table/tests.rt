@@ -1,9 +1,11 @@
-ghost use Rattle.std.specs.Prelude.{◌≡◌, Some};
+ghost use Rattle.std.specs.Prelude.{◌≡◌, None, Some};
 
 use super::*;
+use crate::laws::a_read_key_is_lawful;
 use dbe_cond::Cond;
 use dbe_num::Text;
-use dbe_values::{KeyKind, KeyName, item_from_json, item_text, json_value};
+use dbe_values::{KeyKind, KeyName, item_from_json, item_text, json_value, read_key};
+use std::mem;
 use std::test::Fail;
 
 /// Calls of a table whose key is the text `id`.
@@ -287,7 +289,7 @@ fn answers(
     for line in script.lines() {
         call(alloc, schema, &mut table, line, &mut out)?;
     }
-    let counts = format!(in alloc; "given {}, faults {}\n", table.given, table.faults)?;
+    let counts = format!(in alloc; "given {}, faults {}\n", table.given, table.plan.faults())?;
     out.push_str(&counts)?;
     Ok(out)
 }
@@ -325,7 +327,7 @@ fn planned_calls_fail(rt: HostRuntime) -> Result<(), Fail> {
     let fails = vec![in rt.alloc(); 1]?;
     let mut table = MemTable::new(rt.alloc(), fails);
     assert_eq!(rt; table.begin(&schema), Err(TableFault::Failed));
-    assert_eq!(rt; table.faults, 1);
+    assert_eq!(rt; table.plan.faults(), 1);
     Ok(())
 }
 
@@ -358,9 +360,59 @@ fn begins_with_no_other_rows(rt: HostRuntime) -> Result<(), Fail> {
         let taken = mem::replace(&mut rows, Vec::new(rt.alloc()));
         let mut table = MemTable::of(rt.alloc(), taken, Vec::new(rt.alloc()));
         assert_eq!(rt; table.begin(&schema), Err(TableFault::Failed));
-        assert_eq!(rt; table.faults, 1);
+        assert_eq!(rt; table.plan.faults(), 1);
         lists = lists.saturating_add(1);
     }
     assert_eq!(rt; lists, 5);
+    Ok(())
+}
+
+/// A table that tells nothing of its rows, as one over a file.
+#[derive(Drop)]
+struct QuietTable {
+    table: MemTable,
+}
+
+impl Table for QuietTable {
+    ghost coming = { λ _ _. None };
+
+    ghost rows = { λ _. None };
+
+    ghost begun = { λ t. t.table.begun };
+
+    ghost given = { λ t. t.table.given };
+
+    ghost faults = { λ t. t.table.faults };
+
+    fn begin(&mut self, schema: &KeySchema) -> Result<(), TableFault> {
+        self.table.begin(schema)
+    }
+
+    fn put(&mut self, row: Item) -> Result<(), TableFault> {
+        self.table.put(row)
+    }
+
+    fn get(&mut self, key: &KeyValue) -> Result<Option<Item>, TableFault> {
+        self.table.get(key)
+    }
+
+    fn select(&mut self, wanted: &Wanted) -> Result<Vec<Item>, TableFault> {
+        self.table.select(wanted)
+    }
+}
+
+#[test]
+fn a_table_need_not_tell_its_rows(rt: HostRuntime) -> Result<(), Fail> {
+    let schema = schema_of(rt.alloc(), KeyKind::S, None)?;
+    let mut rows = Vec::new(rt.alloc());
+    rows.push(item_of(rt.alloc(), TABLE.lines().next().unwrap_or(""))?)?;
+    let mut table = QuietTable {
+        table: MemTable::of(rt.alloc(), rows, Vec::new(rt.alloc())),
+    };
+    assert_eq!(rt; table.begin(&schema), Ok(()));
+    let Ok(found) = table.select(&Wanted::Every) else {
+        return Err(Fail::from("the rows"));
+    };
+    assert_eq!(rt; found.len(), 1);
     Ok(())
 }

@@ -1,8 +1,11 @@
-use Rattle.dbe.proofs.Progress.{front_written, turned}
+use Rattle.std.proofs.Common.{refl}
 use Rattle.dbe.proofs.top.reply.Goals as goal
 
-pub returns-in-Ok-clause-err : goal.returns-in-Ok-clause-err
-returns-in-Ok-clause-err g c = λ s is. front_written _ s _ c.in-Ok.text.items _ _ _ _ _ (c.in-Ok.ensures.ok s is) (rw c.deref.ensures.value at c.write_all.ensures.prefix)
+pub returns-in-Err-Table-clause-err : goal.returns-in-Err-Table-clause-err
+returns-in-Err-Table-clause-err g c = λ e state is. record {
+  unanswered = c.in-Err-Table.ensures.err e state is;
+  same = refl;
+}
 
-pub returns-in-Ok-write_all-clause-ok : goal.returns-in-Ok-write_all-clause-ok
-returns-in-Ok-write_all-clause-ok g c = λ s is. turned _ s _ c.in-Ok.text.items _ _ _ _ _ (c.in-Ok.ensures.ok s is) (rw c.deref.ensures.value at c.in-Ok-write_all.ensures.ok)
+pub returns-clause-err : goal.returns-clause-err
+returns-clause-err g c = λ e state is. record { unanswered = c.in-Err-Memory.ensures.err e state is; same = refl }

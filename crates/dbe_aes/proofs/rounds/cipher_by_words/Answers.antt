@@ -8,7 +8,14 @@ loop-n-init c = c.add_round_key-s.ensures
 
 pub loop-n-preserved : goal.loop-n-preserved
 unfolding rounds
-loop-n-preserved c = rw (c.add_round_key-s-in-loop-n.ensures, c.mix_columns.ensures, c.shift_rows.ensures, c.sub_bytes.ensures, c.loop-n.invariant, add-one) refl
+loop-n-preserved c = rw (
+  c.add_round_key-s-in-loop-n.ensures,
+  c.mix_columns.ensures,
+  c.shift_rows.ensures,
+  c.sub_bytes.ensures,
+  c.loop-n.invariant,
+  add-one,
+) refl
 
 pub returns : goal.returns
 unfolding cipher_by_words

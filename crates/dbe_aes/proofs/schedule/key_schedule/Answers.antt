@@ -11,7 +11,8 @@ pub loop-next-preserved : goal.loop-next-preserved
 loop-next-preserved c =
     let next : c.loop-next.next + 1 - 8 ≡ suc (c.loop-next.next - 8) = omega arith in (
       length-set _ _ _ ∙ c.loop-next.invariant.0,
-      rw (next, c.addend.ensures) (words_more c.args.key.now c.loop-next.words c.loop-next.next (c.loop-next.next - 8) _ (omega arith) (omega arith) c.loop-next.invariant.1 refl),
+      rw (next, c.addend.ensures) (words_more c.args.key.now c.loop-next.words c.loop-next.next (c.loop-next.next - 8)
+          _ (omega arith) (omega arith) c.loop-next.invariant.1 refl),
     )
 
 pub returns : goal.returns

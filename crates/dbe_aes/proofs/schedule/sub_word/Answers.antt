@@ -4,4 +4,11 @@ use Rattle.dbe_aes.proofs.schedule.sub_word.Goals as goal
 
 pub returns : goal.returns
 unfolding sub_word
-returns c = rw (c.from_be_bytes.ensures, c.substitute.ensures, c.substitute-2.ensures, c.substitute-3.ensures, c.substitute-4.ensures, c.to_be_bytes.ensures) refl
+returns c = rw (
+  c.from_be_bytes.ensures,
+  c.sbox.ensures,
+  c.sbox-2.ensures,
+  c.sbox-3.ensures,
+  c.sbox-4.ensures,
+  c.to_be_bytes.ensures,
+) refl

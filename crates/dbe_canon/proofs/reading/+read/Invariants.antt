@@ -5,10 +5,13 @@ use Rattle.dbe_canon.proofs.Loops.{behind}
 use Rattle.dbe_canon.proofs.reading.+read.Given as goal
 
 abbrev pub invariant-values_at-loop : goal.invariant-values_at-loop
-invariant-values_at-loop l = behind (map view l.values) (many_at (value_at (value_in l.left)) (l.count - l.counter) l.rest) ≡ many_at (value_at (value_in l.left)) l.count l.bytes
+invariant-values_at-loop l = behind (map view l.values) (many_at (value_at (value_in l.left)) (l.count - l.counter)
+    l.rest) ≡ many_at (value_at (value_in l.left)) l.count l.bytes
 
 abbrev pub invariant-entries_at-loop : goal.invariant-entries_at-loop
-invariant-entries_at-loop l = behind (map entry_view l.entries) (many_at (entry_at (value_in l.left)) (l.count - l.counter) l.rest) ≡ many_at (entry_at (value_in l.left)) l.count l.bytes
+invariant-entries_at-loop l =
+    behind (map entry_view l.entries) (many_at (entry_at (value_in l.left)) (l.count - l.counter) l.rest) ≡ many_at
+    (entry_at (value_in l.left)) l.count l.bytes
 
 abbrev pub decreases-list_in : goal.decreases-list_in
 decreases-list_in l = 8 * l.left + 1

@@ -4,4 +4,5 @@ use Rattle.dbe_canon.proofs.Loops.{behind}
 use Rattle.dbe_canon.proofs.sets.binaries_at.Given as goal
 
 abbrev pub invariant-loop : goal.invariant-loop
-invariant-loop l = behind l.binaries (many_at (element_at binary_in) (l.count - l.counter) l.rest) ≡ many_at (element_at binary_in) l.count l.bytes
+invariant-loop l = behind l.binaries (many_at (element_at binary_in) (l.count - l.counter) l.rest) ≡ many_at
+    (element_at binary_in) l.count l.bytes

@@ -6,11 +6,15 @@ use Rattle.dbe_canon.proofs.sets.numbers_at.Goals as goal
 pub returns-in_err-text : goal.returns-in_err-text
 returns-in_err-text c =
     let p = err_from_is_err_and c.from_residual.result c.from_residual.ensures.1 in
-    rw (p.1, p.2) (stops (element_at number_text_in) c.loop.texts c.args.count c.loop.counter c.loop.rest.now _ c.loop.invariant c.in_err-text.field-0.0 c.loop-test.true c.in_err-text.ensures)
+    rw (p.1, p.2) (stops (element_at number_text_in) c.loop.texts c.args.count c.loop.counter c.loop.rest.now _
+    c.loop.invariant c.in_err-text.field-0.0 c.loop-test.true c.in_err-text.ensures)
 
 pub loop-preserved : goal.loop-preserved
 loop-preserved c =
-    goes_on (element_at number_text_in) c.loop.texts c.args.count c.loop.counter c.loop.rest.now _ c.loop.invariant c.push.new.self c.in_ok-text.text c.in_ok-text.after.now c.loop-test.true c.in_ok-text.ensures c.in_ok-push.ensures.ok
+    goes_on (element_at number_text_in) c.loop.texts c.args.count c.loop.counter c.loop.rest.now _ c.loop.invariant
+    c.push.new.self c.in_ok-text.text c.in_ok-text.after.now c.loop-test.true c.in_ok-text.ensures
+    c.in_ok-push.ensures.ok
 
 pub returns : goal.returns
-returns c = ends (element_at number_text_in) c.loop.texts c.args.count c.loop.counter c.loop.rest.now _ c.loop.invariant c.loop-test.false
+returns c = ends (element_at number_text_in) c.loop.texts c.args.count c.loop.counter c.loop.rest.now _
+    c.loop.invariant c.loop-test.false

@@ -4,4 +4,5 @@ use Rattle.dbe_canon.proofs.Loops.{behind}
 use Rattle.dbe_canon.proofs.sets.numbers_at.Given as goal
 
 abbrev pub invariant-loop : goal.invariant-loop
-invariant-loop l = behind l.texts (many_at (element_at number_text_in) (l.count - l.counter) l.rest) ≡ many_at (element_at number_text_in) l.count l.bytes
+invariant-loop l = behind l.texts (many_at (element_at number_text_in) (l.count - l.counter) l.rest) ≡ many_at
+    (element_at number_text_in) l.count l.bytes

@@ -4,4 +4,5 @@ use Rattle.dbe_cond.specs.Names.{operand_names}
 use Rattle.dbe_cond.proofs.collect.push_list_names.Given as goal
 
 abbrev pub invariant-loop-operand : goal.invariant-loop-operand
-invariant-loop-operand l = l.out.items ++ flat_map operand_names (drop l.operand-index l.list) ≡ l.fn.out.items ++ flat_map operand_names l.list
+invariant-loop-operand l = l.out.items ++ flat_map operand_names (drop l.operand-index l.list) ≡ l.fn.out.items ++
+    flat_map operand_names l.list

@@ -5,4 +5,5 @@ use Rattle.dbe_cond.proofs.names.in_operands.Given as goal
 
 abbrev pub invariant-loop-operand : goal.invariant-loop-operand
 invariant-loop-operand l =
-    first_with l.prefix (flat_map operand_names (drop l.operand-index l.operands)) ≡ first_with l.prefix (flat_map operand_names l.operands)
+    first_with l.prefix (flat_map operand_names (drop l.operand-index l.operands)) ≡ first_with l.prefix
+    (flat_map operand_names l.operands)

@@ -8,7 +8,8 @@ invariant-loop-low g l = record {
   range : l.low ≤ l.high;
   within : l.high ≤ length l.entries;
   below : (k : ℕ) → k < l.low → order l.placeholder (get_or (keys_of l.entries) k []) ≡ Greater;
-  above : (k : ℕ) → l.high ≤ k → k < length (keys_of l.entries) → order l.placeholder (get_or (keys_of l.entries) k []) ≡ Less;
+  above : (k : ℕ) → l.high ≤ k → k < length (keys_of l.entries) →
+      order l.placeholder (get_or (keys_of l.entries) k []) ≡ Less;
 }
 
 abbrev pub decreases-loop-low : goal.decreases-loop-low

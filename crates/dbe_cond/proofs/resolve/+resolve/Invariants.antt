@@ -5,4 +5,5 @@ use Rattle.dbe_cond.specs.Resolved.{all_resolved}
 use Rattle.dbe_cond.proofs.resolve.+resolve.Given as goal
 
 abbrev pub invariant-resolve_all-loop-tree : goal.invariant-resolve_all-loop-tree
-invariant-resolve_all-loop-tree l = conditions_of l.conds ≡ all_resolved l.text l.names l.values (members_of (take l.tree-index l.trees))
+invariant-resolve_all-loop-tree l = conditions_of l.conds ≡ all_resolved l.text l.names l.values
+    (members_of (take l.tree-index l.trees))

@@ -4,4 +4,5 @@ use Rattle.dbe_cond.specs.Placeholders.{name_placeholders}
 use Rattle.dbe_cond.proofs.unknown.unknown_name.Given as goal
 
 abbrev pub invariant-loop-token : goal.invariant-loop-token
-invariant-loop-token l = not_given l.names (name_placeholders l.text (drop l.token-index l.tokens)) ≡ not_given l.names (name_placeholders l.text l.tokens)
+invariant-loop-token l = not_given l.names (name_placeholders l.text (drop l.token-index l.tokens)) ≡ not_given
+    l.names (name_placeholders l.text l.tokens)

@@ -7,4 +7,5 @@ pub returns-clause-is : goal.returns-clause-is
 returns-clause-is c = search rules
 
 pub returns-clause-bounded : goal.returns-clause-bounded
-returns-clause-bounded c = setting_bounds (view c.args.value.now) _ (sym (returns-clause-is c)) (rw c.in-Some-5.is at c.in_ok-context.ensures.order)
+returns-clause-bounded c = setting_bounds (view c.args.value.now) _ (sym (returns-clause-is c))
+    (rw c.in-Some-5.is at c.in_ok-context.ensures.order)

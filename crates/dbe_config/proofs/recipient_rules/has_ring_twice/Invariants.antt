@@ -5,4 +5,6 @@ use Rattle.dbe_config.proofs.Rings.{is_seen}
 use Rattle.dbe_config.proofs.recipient_rules.has_ring_twice.Given as goal
 
 abbrev pub invariant-loop-ring : goal.invariant-loop-ring
-invariant-loop-ring l = (list_any (is_seen l.seen) (drop l.ring-index l.rings) || has_ring_twice (drop l.ring-index l.rings)) ≡ has_ring_twice l.rings
+invariant-loop-ring l =
+    (list_any (is_seen l.seen) (drop l.ring-index l.rings) || has_ring_twice (drop l.ring-index l.rings)) ≡
+    has_ring_twice l.rings

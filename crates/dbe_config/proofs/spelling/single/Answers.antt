@@ -3,7 +3,9 @@ use Rattle.dbe_config.proofs.Known.{single_one, single_two}
 use Rattle.dbe_config.proofs.spelling.single.Goals as goal
 
 pub returns-in-Some : goal.returns-in-Some
-returns-in-Some c = single_two c.args.text.now _ _ _ _ c.utf8.text (sym c.chars-characters.ensures.rest ∙ c.in_ok-first.ensures.steps.0) c.in-Some.ensures.steps.0
+returns-in-Some c = single_two c.args.text.now _ _ _ _ c.utf8.text (sym c.chars-characters.ensures.rest ∙
+    c.in_ok-first.ensures.steps.0) c.in-Some.ensures.steps.0
 
 pub returns-in-None : goal.returns-in-None
-returns-in-None c = single_one c.args.text.now _ _ c.utf8.text (sym c.chars-characters.ensures.rest ∙ c.in_ok-first.ensures.steps.0) c.in-None.ensures.steps.0.0
+returns-in-None c = single_one c.args.text.now _ _ c.utf8.text (sym c.chars-characters.ensures.rest ∙
+    c.in_ok-first.ensures.steps.0) c.in-None.ensures.steps.0.0

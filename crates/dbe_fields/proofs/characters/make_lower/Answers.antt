@@ -10,4 +10,5 @@ loop-c-preserved c =
     let i = c.loop-c.c-index in
     let within : i < length ys = omega arith in
     let e : c.to_ascii_lowercase.result ≡ to_ascii_lowercase (get_or ys i 0) = c.to_ascii_lowercase.ensures.value in
-    ap (set ys i) e ∙ map_over_more to_ascii_lowercase c.args.text.now ys i (get_or ys i 0) (omega arith) c.loop-c.invariant (get_or_default ys i 0 (get_or ys i 0) within)
+    ap (set ys i) e ∙ map_over_more to_ascii_lowercase c.args.text.now ys i (get_or ys i 0) (omega arith)
+    c.loop-c.invariant (get_or_default ys i 0 (get_or ys i 0) within)

@@ -9,4 +9,5 @@ put_computed-requires-clause-computed c =
     let name = c.compound-item.result.name in
     or_left _ _
     (ap (λ xs. is_among name (map (λ (x : Compound). x.name) xs)) (sym c.compounds-compound-items.ensures)
-    ∙ among_at (λ (x : Compound). x.name) c.compounds-compound-items.result.now c.loop-compound.compound-index c.compound-item.result c.loop-compound-test.true c.compound-item.is)
+    ∙ among_at (λ (x : Compound). x.name) c.compounds-compound-items.result.now c.loop-compound.compound-index
+    c.compound-item.result c.loop-compound-test.true c.compound-item.is)

@@ -9,4 +9,5 @@ put_computed-requires-clause-computed c =
     let name = c.field-item.result.name in
     or_right _ _
     (ap (λ xs. is_among name (map (λ (x : Virtual). x.name) xs)) (sym c.virtuals-field-items.ensures)
-    ∙ among_at (λ (x : Virtual). x.name) c.virtuals-field-items.result.now c.loop-field.field-index c.field-item.result c.loop-field-test.true c.field-item.is)
+    ∙ among_at (λ (x : Virtual). x.name) c.virtuals-field-items.result.now c.loop-field.field-index
+    c.field-item.result c.loop-field-test.true c.field-item.is)

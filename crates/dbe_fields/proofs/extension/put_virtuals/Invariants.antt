@@ -5,5 +5,6 @@ use Rattle.dbe_fields.proofs.extension.put_virtuals.Given as goal
 
 abbrev pub invariant-loop-field : goal.invariant-loop-field
 invariant-loop-field l =
-    fold (λ r name. with_value name (plain l.config name l.item) r) l.target (map (λ v. v.name) (drop l.field-index l.field-items))
+    fold (λ r name. with_value name (plain l.config name l.item) r) l.target
+    (map (λ v. v.name) (drop l.field-index l.field-items))
     ≡ fold (λ r name. with_value name (plain l.config name l.item) r) l.fn.target (map (λ v. v.name) l.config.virtuals)

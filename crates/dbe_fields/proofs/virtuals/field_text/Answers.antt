@@ -9,5 +9,8 @@ use Rattle.dbe_fields.proofs.virtuals.field_text.Goals as goal
 pub returns-in-Some : goal.returns-in-Some
 returns-in-Some c =
     let item = c.args.item.now in
-    let is = ap (virtual_text item) c.as_slice.ensures ∙ field_text_is c.args.config.now c.args.name.now item c.in-Some.field.now c.in-Some.ensures in
-    IfOk-weaker c.virtual_text.result (λ (o : Option (List ℕ)). o ≡ virtual_text item c.as_slice.result.now) (λ (o : Option (List ℕ)). o ≡ option_and_then value_text (field_value c.args.config.now c.args.name.now item)) (λ o p. p ∙ is) c.virtual_text.ensures
+    let is = ap (virtual_text item) c.as_slice.ensures ∙ field_text_is c.args.config.now c.args.name.now item
+    c.in-Some.field.now c.in-Some.ensures in
+    IfOk-weaker c.virtual_text.result (λ (o : Option (List ℕ)). o ≡ virtual_text item c.as_slice.result.now)
+    (λ (o : Option (List ℕ)). o ≡ option_and_then value_text (field_value c.args.config.now c.args.name.now item))
+    (λ o p. p ∙ is) c.virtual_text.ensures

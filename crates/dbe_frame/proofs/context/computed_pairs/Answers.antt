@@ -1,22 +1,20 @@
-use Rattle.std.proofs.Common.{◌≡◌, ℕ, List, ap, subst}
-use Rattle.std.specs.Prelude.{IfOk, option_map}
-use Rattle.dbe_values.specs.View.{view}
+use Rattle.std.proofs.Common.{rules}
+use Rattle.std.proofs.lemmas.List.Sorted.{All-permutation, answers_always}
 use Rattle.dbe_values.specs.KeyValues.{key_view}
-use Rattle.dbe_frame.proofs.Computed.{partition_short, sort_short, with_sort}
+use Rattle.dbe_frame.specs.Context.{pair_below}
+use Rattle.dbe_frame.specs.Header.{IsShortPair}
+use Rattle.dbe_frame.proofs.Computed.{pairs_weak, pairs_sorted}
 use Rattle.dbe_frame.proofs.context.computed_pairs.Goals as goal
 
-pub pairs_with_sort-requires-clause-value : goal.pairs_with_sort-requires-clause-value
-pairs_with_sort-requires-clause-value c = partition_short c.args.schema.now (key_view c.args.key.now) c.requires.key c.is_normal_number.ensures
+pub returns-clause-pairs : goal.returns-clause-pairs
+returns-clause-pairs c =
+    let sorted = c.in_ok-sort_by.ensures.sorted pair_below pairs_weak
+    (answers_always _ _ _ (λ f a r f' k. search rules)) in
+    let stable = c.in_ok-sort_by.ensures.stable pair_below pairs_weak
+    (answers_always _ _ _ (λ f a r f' k. search rules)) in
+    pairs_sorted c.args.schema.now c.args.table.now (key_view c.args.key.now) c.in_ok-pairs.pairs.items
+    c.sort_by.new.self.items c.in_ok-pairs.ensures.pairs sorted stable
 
-pub pairs_with_sort-requires-clause-sort_value : goal.pairs_with_sort-requires-clause-sort_value
-pairs_with_sort-requires-clause-sort_value c =
-    sort_short c.args.schema.now (key_view c.args.key.now) c.in-Some-Some.sort (view c.in-Some-Some.value) c.requires.key c.in-Some-Some.is-0 (ap (option_map view) c.in-Some-Some.is-1) c.is_normal_number-in-Some-Some.ensures
-
-pub pairs_without_sort-requires-clause-value : goal.pairs_without_sort-requires-clause-value
-pairs_without_sort-requires-clause-value c = partition_short c.args.schema.now (key_view c.args.key.now) c.requires.key c.is_normal_number.ensures
-
-pub returns-in-Some-Some-clause-pairs : goal.returns-in-Some-Some-clause-pairs
-returns-in-Some-Some-clause-pairs c =
-    subst (λ (x : List (List ℕ × List ℕ)). IfOk c.pairs_with_sort.result (λ pairs. pairs.items ≡ x))
-    (with_sort c.args.schema.now c.args.table.now (key_view c.args.key.now) c.in-Some-Some.sort (view c.in-Some-Some.value) c.in-Some-Some.is-0 (ap (option_map view) c.in-Some-Some.is-1))
-    c.pairs_with_sort.ensures.pairs
+pub returns-clause-short : goal.returns-clause-short
+returns-clause-short c = All-permutation IsShortPair c.in_ok-pairs.pairs.items c.sort_by.new.self.items
+    c.in_ok-sort_by.ensures.permutation c.in_ok-pairs.ensures.short

@@ -1,4 +1,4 @@
-use Rattle.dbe_frame.proofs.Names.{names_strict, names_permuted, names_sorted}
+use Rattle.dbe_frame.proofs.Names.{names_strict, names_permuted}
 use Rattle.dbe_frame.proofs.laws.canonical_order.Goals as goal
 
 pub returns-clause-order : goal.returns-clause-order

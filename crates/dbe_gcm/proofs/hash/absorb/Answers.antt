@@ -1,6 +1,7 @@
 use Rattle.std.proofs.Common.{◌≡◌, ◌+◌, ◌*◌, ◌/◌, ◌++◌, length, arith, refl, ◌∙◌, append_assoc}
 use Rattle.std.proofs.lemmas.List.{append-nil}
-use Rattle.dbe_gcm.proofs.Hashes.{first_blocks, first_blocks-none, first_blocks-more, blocks_all, block_at-filled, length-filled}
+use Rattle.dbe_gcm.proofs.Hashes.{first_blocks, first_blocks-none, first_blocks-more, blocks_all, block_at-filled}
+use Rattle.dbe_gcm.proofs.Hashes.{length-filled}
 use Rattle.dbe_gcm.proofs.hash.absorb.Goals as goal
 
 pub loop-j-init : goal.loop-j-init

@@ -5,4 +5,5 @@ use Rattle.dbe_gcm.proofs.Hashes.{first_blocks}
 use Rattle.dbe_gcm.proofs.hash.absorb.Given as goal
 
 abbrev pub invariant-loop-j : goal.invariant-loop-j
-invariant-loop-j l = (h : ℕ) (xs : List ℕ) → IsTable h l.table → l.fn.sum ≡ ghash h xs → l.sum ≡ ghash h (xs ++ first_blocks l.bytes l.j)
+invariant-loop-j l = (h : ℕ) (xs : List ℕ) → IsTable h l.table → l.fn.sum ≡ ghash h xs →
+    l.sum ≡ ghash h (xs ++ first_blocks l.bytes l.j)

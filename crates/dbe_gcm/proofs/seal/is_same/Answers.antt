@@ -10,6 +10,7 @@ loop-i-preserved c = tells_more c.args.a.now c.args.b.now c.loop-i.i c.loop-i.di
 
 pub returns : goal.returns
 returns c = (
-  (λ h. same_list c.args.a.now c.args.b.now c.told-a c.told-b (λ k lt. c.loop-i.invariant.same (eqb-true _ _ h) k (omega arith))),
+  (λ h. same_list c.args.a.now c.args.b.now c.told-a c.told-b (λ k lt. c.loop-i.invariant.same (eqb-true _ _ h) k
+      (omega arith))),
   (λ e. eq-eqb _ _ (c.loop-i.invariant.none (λ k lt. ap (λ s. get_or s k 0) e))),
 )

@@ -8,7 +8,8 @@ loop-i-init c = record { entries = λ k lt. absurd (omega arith); power = sym (r
 pub loop-n-preserved : goal.loop-n-preserved
 loop-n-preserved c =
     let next : 16 * c.loop-i.i + (c.loop-n.n + 1) ≡ 16 * c.loop-i.i + c.loop-n.n + 1 = omega arith in
-    rw next (entries_more c.args.h c.loop-n.table c.row-row.result c.loop-i.power c.loop-i.i c.loop-n.n (omega arith) (omega arith) c.row-row.ensures c.loop-i.invariant.power c.loop-n.invariant)
+    rw next (entries_more c.args.h c.loop-n.table c.row-row.result c.loop-i.power c.loop-i.i c.loop-n.n (omega arith)
+    (omega arith) c.row-row.ensures c.loop-i.invariant.power c.loop-n.invariant)
 
 pub loop-i-preserved : goal.loop-i-preserved
 loop-i-preserved c =

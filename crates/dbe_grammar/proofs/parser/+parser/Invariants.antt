@@ -19,13 +19,19 @@ abbrev pub decreases-or_list : goal.decreases-or_list
 decreases-or_list l = 5 * length l.tokens.now + 2
 
 abbrev pub invariant-and_list-loop-found : goal.invariant-and_list-loop-found
-invariant-and_list-loop-found l = record { so_far : AndsSoFar l.tokens (members_of l.members) l.rest; shorter : length l.rest < length l.tokens }
+invariant-and_list-loop-found l = record {
+  so_far : AndsSoFar l.tokens (members_of l.members) l.rest;
+  shorter : length l.rest < length l.tokens;
+}
 
 abbrev pub decreases-and_list-loop-found : goal.decreases-and_list-loop-found
 decreases-and_list-loop-found l = length l.rest
 
 abbrev pub invariant-or_list-loop-found : goal.invariant-or_list-loop-found
-invariant-or_list-loop-found l = record { so_far : OrsSoFar l.tokens (members_of l.members) l.rest; shorter : length l.rest < length l.tokens }
+invariant-or_list-loop-found l = record {
+  so_far : OrsSoFar l.tokens (members_of l.members) l.rest;
+  shorter : length l.rest < length l.tokens;
+}
 
 abbrev pub decreases-or_list-loop-found : goal.decreases-or_list-loop-found
 decreases-or_list-loop-found l = length l.rest

@@ -8,4 +8,5 @@ pub returns-in_default-name-clause-stop : goal.returns-in_default-name-clause-st
 returns-in_default-name-clause-stop c = name_name _ _ c.in-Some.ensures.some c.in_default-name.ensures.none
 
 pub returns-in_default-after_close-clause-stop : goal.returns-in_default-after_close-clause-stop
-returns-in_default-after_close-clause-stop c = name_close _ _ _ _ c.in-Some.ensures.some c.in-Some-name.ensures.some c.in_default-after_close.ensures.none
+returns-in_default-after_close-clause-stop c = name_close _ _ _ _ c.in-Some.ensures.some c.in-Some-name.ensures.some
+    c.in_default-after_close.ensures.none

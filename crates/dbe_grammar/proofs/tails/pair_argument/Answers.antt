@@ -8,11 +8,14 @@ pub returns-in_default-name-clause-stop : goal.returns-in_default-name-clause-st
 returns-in_default-name-clause-stop c = pair_name _ _ c.in-Some.ensures.some c.in_default-name.ensures.none
 
 pub returns-in_default-after_comma-clause-stop : goal.returns-in_default-after_comma-clause-stop
-returns-in_default-after_comma-clause-stop c = pair_comma _ _ _ _ c.in-Some.ensures.some c.in-Some-name.ensures.some c.in_default-after_comma.ensures.none
+returns-in_default-after_comma-clause-stop c = pair_comma _ _ _ _ c.in-Some.ensures.some c.in-Some-name.ensures.some
+    c.in_default-after_comma.ensures.none
 
 pub returns-in_default-operand-clause-stop : goal.returns-in_default-operand-clause-stop
-returns-in_default-operand-clause-stop c = pair_front _ _ _ _ _ c.in-Some.ensures.some c.in-Some-name.ensures.some c.in-Some-after_comma.ensures.some c.in_default-operand.ensures.none
+returns-in_default-operand-clause-stop c = pair_front _ _ _ _ _ c.in-Some.ensures.some c.in-Some-name.ensures.some
+    c.in-Some-after_comma.ensures.some c.in_default-operand.ensures.none
 
 pub returns-in_default-after_close-clause-stop : goal.returns-in_default-after_close-clause-stop
 returns-in_default-after_close-clause-stop c =
-    pair_close _ _ _ _ _ _ _ c.in-Some.ensures.some c.in-Some-name.ensures.some c.in-Some-after_comma.ensures.some c.in-Some-operand.ensures.some c.in_default-after_close.ensures.none
+    pair_close _ _ _ _ _ _ _ c.in-Some.ensures.some c.in-Some-name.ensures.some c.in-Some-after_comma.ensures.some
+    c.in-Some-operand.ensures.some c.in_default-after_close.ensures.none

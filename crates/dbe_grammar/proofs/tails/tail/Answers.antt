@@ -8,5 +8,6 @@ pub returns-in_default-token : goal.returns-in_default-token
 returns-in_default-token c = record {
   front = tt;
   shorter = tt;
-  stop = tail_token _ c.in-Some.rest.now c.in-Some.token.now c.in-Some.ensures.cases.0 c.in_default-token.not-Compare c.in_default-token.not-Between c.in_default-token.not-In;
+  stop = tail_token _ c.in-Some.rest.now c.in-Some.token.now c.in-Some.ensures.cases.0 c.in_default-token.not-Compare
+      c.in_default-token.not-Between c.in_default-token.not-In;
 }

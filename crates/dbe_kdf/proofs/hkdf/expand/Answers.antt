@@ -15,12 +15,18 @@ loop-i-preserved c =
     let inner = rw c.key_block512-block.ensures at c.keyed-inner.ensures in
     let outer = rw c.key_block512-block.ensures at c.keyed-outer.ensures in
     let made = c.next_block-last.ensures key inner outer in
-    let block : c.next_block-last.result ≡ hkdf_block key info (i + 1) = rw (hkdf_block_next key info i, ← c.loop-i.invariant.last) made in
+    let block : c.next_block-last.result ≡ hkdf_block key info (i + 1) = rw (
+      hkdf_block_next key info i,
+      ← c.loop-i.invariant.last,
+    ) made in
     record {
       fits = omega arith;
       last = take_all 64 c.next_block-last.result (omega arith) ∙ block;
-      done = filled_more key info c.loop-i.out c.next_block-last.result c.copy_from_slice.new.self i (c.min-end.result - 64 * i) c.loop-i.invariant.done (omega arith) block (omega arith) (omega arith) c.copy_from_slice.ensures.after;
+      done = filled_more key info c.loop-i.out c.next_block-last.result c.copy_from_slice.new.self i
+          (c.min-end.result - 64 * i) c.loop-i.invariant.done (omega arith) block (omega arith) (omega arith)
+          c.copy_from_slice.ensures.after;
     }
 
 pub returns : goal.returns
-returns c = filled_all c.args.key.now c.args.info.now c.loop-i.out (length c.args.out.now) c.loop-i.i c.loop-i.invariant.done (omega arith) (omega arith)
+returns c = filled_all c.args.key.now c.args.info.now c.loop-i.out (length c.args.out.now) c.loop-i.i
+    c.loop-i.invariant.done (omega arith) (omega arith)

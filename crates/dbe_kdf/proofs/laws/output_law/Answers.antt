@@ -1,4 +1,5 @@
-use Rattle.dbe_kdf.proofs.Outputs.{length-hmac384, bytes-hmac384, length-hmac512, bytes-hmac512, length-hkdf, bytes-hkdf}
+use Rattle.dbe_kdf.proofs.Outputs.{length-hmac384, bytes-hmac384, length-hmac512, bytes-hmac512, length-hkdf}
+use Rattle.dbe_kdf.proofs.Outputs.{bytes-hkdf}
 use Rattle.dbe_kdf.proofs.laws.output_law.Goals as goal
 
 pub returns : goal.returns

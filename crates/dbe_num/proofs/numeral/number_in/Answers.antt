@@ -14,7 +14,8 @@ read_on-requires-2-clause-digits c = back_digits c.args.whole.now c.args.fractio
 
 pub read_on-requires-2-clause-fits : goal.read_on-requires-2-clause-fits
 read_on-requires-2-clause-fits c =
-    room_after c.read_on.result c.args.whole.now c.args.fraction.now 38 c.read_on.ensures (front_digits c.args.whole.now c.args.fraction.now c.requires.digits) c.requires.few
+    room_after c.read_on.result c.args.whole.now c.args.fraction.now 38 c.read_on.ensures
+    (front_digits c.args.whole.now c.args.fraction.now c.requires.digits) c.requires.few
 
 pub returns : goal.returns
 returns c =

@@ -4,6 +4,7 @@ use Rattle.dbe_num.proofs.numeral.number_up_to_far.Given as goal
 
 abbrev pub invariant-loop-byte : goal.invariant-loop-byte
 invariant-loop-byte l = record {
-  so_far : min (whole_number_after l.number (drop l.byte-index l.digits)) (2 ^ 70) ≡ min (whole_number l.digits) (2 ^ 70);
+  so_far : min (whole_number_after l.number (drop l.byte-index l.digits)) (2 ^ 70) ≡ min (whole_number l.digits)
+      (2 ^ 70);
   capped : l.number ≤ 2 ^ 70;
 }

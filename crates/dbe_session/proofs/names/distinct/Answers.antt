@@ -15,12 +15,20 @@ pub loop-name-preserved : goal.loop-name-preserved
 loop-name-preserved c =
     let before = c.loop-name.invariant in
     elim c.if-not-is_among.branch [
-      | then-not-is_among+in_ok-copy+in_ok-push w ↦ rw (w.found-is, w.in_ok-push.ensures.items, w.in_ok-copy.ensures) (record {
-        same = with_one c.args.names.now c.loop-name.found.items c.loop-name.name-index c.name-item.result c.loop-name-test.true c.name-item.is before.same;
-        once = IsDistinct-push nat_list_eq_equiv c.loop-name.found.items c.name-item.result before.once (sym (w.if-not-is_among.ensures ∙ ap (is_among c.name-item.result) c.deref.ensures.value));
+      | then-not-is_among+in_ok-copy+in_ok-push w ↦ rw (
+        w.found-is,
+        w.in_ok-push.ensures.items,
+        w.in_ok-copy.ensures,
+      ) (record {
+        same = with_one c.args.names.now c.loop-name.found.items c.loop-name.name-index c.name-item.result
+            c.loop-name-test.true c.name-item.is before.same;
+        once = IsDistinct-push nat_list_eq_equiv c.loop-name.found.items c.name-item.result before.once
+            (sym (w.if-not-is_among.ensures ∙ ap (is_among c.name-item.result) c.deref.ensures.value));
       })
       | else-not-is_among w ↦ rw w.found-is (record {
-        same = without_one c.args.names.now c.loop-name.found.items c.loop-name.name-index c.name-item.result c.loop-name-test.true c.name-item.is before.same (sym (w.if-not-is_among.ensures ∙ ap (is_among c.name-item.result) c.deref.ensures.value));
+        same = without_one c.args.names.now c.loop-name.found.items c.loop-name.name-index c.name-item.result
+            c.loop-name-test.true c.name-item.is before.same (sym (w.if-not-is_among.ensures ∙
+            ap (is_among c.name-item.result) c.deref.ensures.value));
         once = before.once;
       })
     ]

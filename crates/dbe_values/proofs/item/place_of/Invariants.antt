@@ -8,7 +8,8 @@ invariant-loop-low l = record {
   range : l.low ≤ l.high;
   within : l.high ≤ length l.attributes;
   below : (k : ℕ) → k < l.low → order l.name (get_or (names_of l.attributes) k []) ≡ Greater;
-  above : (k : ℕ) → l.high ≤ k → k < length (names_of l.attributes) → order l.name (get_or (names_of l.attributes) k []) ≡ Less;
+  above : (k : ℕ) → l.high ≤ k → k < length (names_of l.attributes) →
+      order l.name (get_or (names_of l.attributes) k []) ≡ Less;
 }
 
 abbrev pub decreases-loop-low : goal.decreases-loop-low

@@ -7,7 +7,8 @@ use Rattle.dbe_values.proofs.read.binaries_of.Given as goal
 
 abbrev pub invariant-loop-item : goal.invariant-loop-item
 invariant-loop-item l = record {
-  so_far : elements_after binary_in (map vec_items l.binaries.keys) (items_view (drop l.item-index l.items)) ≡ elements_after binary_in [] (items_view l.items);
+  so_far : elements_after binary_in (map vec_items l.binaries.keys) (items_view (drop l.item-index l.items)) ≡
+      elements_after binary_in [] (items_view l.items);
   each : All AreBytes (map vec_items l.binaries.keys);
   some : l.item-index ≤ length l.binaries.keys;
 }

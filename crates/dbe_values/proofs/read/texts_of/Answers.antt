@@ -7,7 +7,10 @@ use Rattle.dbe_values.proofs.read.texts_of.Goals as goal
 
 pub loop-item-preserved : goal.loop-item-preserved
 loop-item-preserved c = record {
-  so_far = element_more text_in (map string_bytes c.loop-item.texts.keys) c.args.items.now c.loop-item.item-index c.item-item.result c.loop-item-test.true c.item-item.is _ c.loop-item.invariant.so_far _ _ c.in_ok-owned_text_in.ensures.gives c.in_ok-put_text.ensures.gives;
-  each = put_each IsUtf8 _ _ (map string_bytes c.loop-item.texts.keys) _ c.in_ok-put_text.ensures.gives c.in_ok-owned_text_in.ensures.lawful c.loop-item.invariant.each;
+  so_far = element_more text_in (map string_bytes c.loop-item.texts.keys) c.args.items.now c.loop-item.item-index
+      c.item-item.result c.loop-item-test.true c.item-item.is _ c.loop-item.invariant.so_far _ _
+      c.in_ok-owned_text_in.ensures.gives c.in_ok-put_text.ensures.gives;
+  each = put_each IsUtf8 _ _ (map string_bytes c.loop-item.texts.keys) _ c.in_ok-put_text.ensures.gives
+      c.in_ok-owned_text_in.ensures.lawful c.loop-item.invariant.each;
   some = omega (arith, c.in_ok-put_text.ensures.longer);
 }

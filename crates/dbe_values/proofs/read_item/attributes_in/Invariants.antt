@@ -9,6 +9,7 @@ use Rattle.dbe_values.proofs.read_item.attributes_in.Given as goal
 
 abbrev pub invariant-loop-key : goal.invariant-loop-key
 invariant-loop-key l = record {
-  so_far : after_attributes (map entry_view l.item) (attributes_in (members_view l.key-iterator)) ≡ attributes_in (members_view l.members.entries);
+  so_far : after_attributes (map entry_view l.item) (attributes_in (members_view l.key-iterator)) ≡ attributes_in
+      (members_view l.members.entries);
   names : names_of l.item ++ member_names l.key-iterator ≡ member_names l.members.entries;
 }

@@ -9,13 +9,15 @@ use Rattle.dbe_values.proofs.read_value.+read.Given as goal
 
 abbrev pub invariant-values_in-loop-item : goal.invariant-values_in-loop-item
 invariant-values_in-loop-item l = record {
-  so_far : after_vals (map view l.values) (values_in l.left (items_view (drop l.item-index l.items))) ≡ values_in l.left (items_view l.items);
+  so_far : after_vals (map view l.values) (values_in l.left (items_view (drop l.item-index l.items))) ≡ values_in
+      l.left (items_view l.items);
   lawful : AreLawful l.left (vals_of (map view l.values));
 }
 
 abbrev pub invariant-entries_in-loop-name : goal.invariant-entries_in-loop-name
 invariant-entries_in-loop-name l = record {
-  so_far : after_entries (map entry_view l.entries) (entries_in l.left (members_view l.name-iterator)) ≡ entries_in l.left (members_view l.members.entries);
+  so_far : after_entries (map entry_view l.entries) (entries_in l.left (members_view l.name-iterator)) ≡ entries_in
+      l.left (members_view l.members.entries);
   lawful : AreLawfulEntries l.left (entries_of (map entry_view l.entries));
   names : names_of l.entries ++ member_names l.name-iterator ≡ member_names l.members.entries;
 }

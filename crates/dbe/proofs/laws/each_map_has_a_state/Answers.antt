@@ -1,8 +1,0 @@
-use Rattle.dbe.proofs.Headline.{nothing_stands, state_of_map}
-use Rattle.dbe.proofs.laws.each_map_has_a_state.Goals as goal
-
-pub returns-clause-empty : goal.returns-clause-empty
-returns-clause-empty c = nothing_stands
-
-pub returns-clause-some : goal.returns-clause-some
-returns-clause-some c = state_of_map

@@ -1,0 +1,20 @@
+//! The lines of a script: bytes to request, and reply to bytes.
+#![tactic(auto)]
+
+mod conditions;
+mod fault;
+mod queries;
+mod request;
+mod requests;
+#[cfg(test)]
+mod tests;
+mod texts;
+
+pub use conditions::condition_text;
+pub use fault::RewriteFault;
+pub use request::{Query, Request};
+pub use requests::read_request;
+pub use texts::{
+    checked_text, cond_refusal, count_text, every_text, item_text, none_text, put_refusal,
+    put_text, refused_name, refused_text, rewrite_refusal, split_text, value_refusal,
+};

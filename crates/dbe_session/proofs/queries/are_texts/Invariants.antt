@@ -1,7 +1,0 @@
-use Rattle.std.proofs.Common.{◌≡◌}
-use Rattle.serde_json.specs.View.{members_view}
-use Rattle.dbe_session.specs.Queries.{are_texts}
-use Rattle.dbe_session.proofs.queries.are_texts.Given as goal
-
-abbrev pub invariant-loop-value : goal.invariant-loop-value
-invariant-loop-value l = are_texts (members_view l.value-iterator) ≡ are_texts (members_view l.map.entries)

@@ -1,6 +1,0 @@
-use Rattle.std.proofs.Common.{codes}
-use Rattle.dbe_session.proofs.Floats.{no_float_item}
-use Rattle.dbe_session.proofs.texts.item_text.Goals as goal
-
-pub line_of-requires : goal.line_of-requires
-line_of-requires c = rw (c.in_ok-item_value.ensures) (no_float_item (codes "item") c.args.item.now)
