@@ -1,5 +1,5 @@
 -- The arguments of the program, and what filling a block with one gives (this project's own).
-use Rattle.std.specs.Prelude.{◌≡◌, ◌⊎◌, ◌<◌, ◌≤◌, ℕ, List, length, take, Option, Some, None, Result, Ok, Err, IsUtf8, ⊤}
+use Rattle.std.specs.Prelude.{◌≡◌, ◌⊎◌, ◌<◌, ◌≤◌, ℕ, List, length, take, Option, Some, None, Result, Ok, Err, IsUtf8}
 use Rattle.std.specs.List.{All}
 use Rattle.std.specs.declared.env.FillError.{FillError}
 use Rattle.std.specs.declared.env.FillError.TheVariants as f
@@ -7,7 +7,7 @@ use Rattle.std.specs.declared.env.FillError.TheVariants as f
 -- A block was filled with the argument of a place, where there is one.
 abbrev pub IsFilledWith : Option (List ℕ) → Result ℕ FillError → List ℕ → Type 0
 IsFilledWith None (Ok count) block = ⊥
-IsFilledWith None (Err f.NotPresent) block = ⊤
+IsFilledWith None (Err f.NotPresent) block = Unit {0}
 IsFilledWith None (Err f.TooLong) block = ⊥
 IsFilledWith (Some argument) (Ok count) block = take count block ≡ argument
 IsFilledWith (Some argument) (Err f.NotPresent) block = ⊥

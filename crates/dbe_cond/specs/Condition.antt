@@ -1,5 +1,5 @@
 -- What a condition is, without where it lies in memory (this project's own).
-use Rattle.std.specs.Prelude.{◌≢◌, ℕ, List, [], ◌∷◌, map, ⊤}
+use Rattle.std.specs.Prelude.{◌≢◌, ℕ, List, [], ◌∷◌, map}
 use Rattle.dbe_tokens.specs.declared.token.Op.{Op}
 use Rattle.dbe_cond.specs.declared.operand.Operand.{Operand}
 use Rattle.dbe_cond.specs.declared.cond.Cond.{Cond, fold-Cond}
@@ -45,22 +45,22 @@ abbrev pub members_of : List Cond → Conditions
 members_of conds = conditions_of (map condition_of conds)
 
 abbrev pub HaveTwo : Conditions → Type 0
-HaveTwo (some c (some d cs)) = ⊤
+HaveTwo (some c (some d cs)) = Unit {0}
 HaveTwo cs = ⊥
 
 -- And and Or have two members or more, and a list of IN has one or more.
 abbrev mutual
   pub IsLawful : Condition → Type 0
-  IsLawful (compare left op right) = ⊤
-  IsLawful (between value low high) = ⊤
+  IsLawful (compare left op right) = Unit {0}
+  IsLawful (between value low high) = Unit {0}
   IsLawful (within value list) = list ≢ []
-  IsLawful (begins name front) = ⊤
-  IsLawful (exists name) = ⊤
-  IsLawful (lacks name) = ⊤
+  IsLawful (begins name front) = Unit {0}
+  IsLawful (exists name) = Unit {0}
+  IsLawful (lacks name) = Unit {0}
   IsLawful (not c) = IsLawful c
   IsLawful (and cs) = HaveTwo cs × AreLawful cs
   IsLawful (or cs) = HaveTwo cs × AreLawful cs
 
   pub AreLawful : Conditions → Type 0
-  AreLawful none = ⊤
+  AreLawful none = Unit {0}
   AreLawful (some c cs) = IsLawful c × AreLawful cs

@@ -1,6 +1,6 @@
 -- Reading the text of a condition (this project's own).
 use Rattle.std.specs.Prelude.{◌≡◌, ◌≢◌, ℕ, ◌<◌, ◌≤◌, Bool, true, false, ◌||◌, List, [], ◌∷◌, length, nat_lt, get_or}
-use Rattle.std.specs.Prelude.{Result, Ok, Err, ⊤}
+use Rattle.std.specs.Prelude.{Result, Ok, Err}
 use Rattle.dbe_values.specs.declared.value.AttrValue.{AttrValue}
 use Rattle.dbe_tokens.specs.Text.{IsCut, IsBadAt}
 use Rattle.dbe_tokens.specs.Deep.{IsTooDeep}
@@ -108,7 +108,7 @@ pub record LacksValue (text : List ℕ) (names : List (List ℕ × List ℕ)) (v
 
 -- Each refusal is the first of its order: what stands before it does not hold.
 abbrev pub Refuses : List ℕ → List (List ℕ × List ℕ) → List (List ℕ × AttrValue) → CondFault → Type 0
-Refuses text names values fault.Memory = ⊤
+Refuses text names values fault.Memory = Unit {0}
 Refuses text names values fault.TooLong = 4096 < length text
 Refuses text names values (fault.BadToken at) = (length text ≤ 4096) × IsBadAt text at
 Refuses text names values fault.TooDeep = NestsTooDeep text

@@ -53,7 +53,7 @@ pub fn one_reading()
     ensures { (text : List ℕ) (names : List (List ℕ × List ℕ)) (values : List (List ℕ × AttrValue)) (c d : Condition) → Reads text names values c → Reads text names values d → c ≡ d }
 {}
 
-/// A text that is a condition is refused for want of memory alone, and there is at most one other refusal.
+/// A text that is a condition is refused only where memory runs out, and there is at most one other refusal.
 pub fn one_refusal()
     ensures none { (text : List ℕ) (names : List (List ℕ × List ℕ)) (values : List (List ℕ × AttrValue)) (c : Condition) (fault : the_fault) → Reads text names values c → Refuses text names values fault → fault ≡ Memory }
     ensures one { (text : List ℕ) (names : List (List ℕ × List ℕ)) (values : List (List ℕ × AttrValue)) (m n : the_fault) → Refuses text names values m → Refuses text names values n → m ≢ Memory → n ≢ Memory → m ≡ n }

@@ -2,7 +2,6 @@
 use Rattle.std.proofs.Common.{◌≡◌, ◌<◌, ◌+◌, ℕ, Bool, true, false, List, [], ◌∷◌, ◌||◌, refl, ap, sym, ◌∙◌, is_some}
 use Rattle.std.proofs.Common.{Some, String, string_bytes, string_cmp, Global, BTreeMap, bytes_eq, map, length, drop}
 use Rattle.std.proofs.Common.{get_or, cond}
-use Rattle.std.specs.Prelude.{⊤}
 use Rattle.std.specs.List.{list_any}
 use Rattle.std.specs.BTreeMap.{get_by_text, Updates}
 use Rattle.std.specs.declared.option.Option.{Option}
@@ -11,7 +10,7 @@ use Rattle.std.proofs.lemmas.List.{drop_more}
 use Rattle.dbe_config.specs.Rules.{is_among, is_twice}
 
 -- whether a walk has seen a name
-abbrev pub is_seen : BTreeMap (String Global) ⊤ → List ℕ → Bool
+abbrev pub is_seen : BTreeMap (String Global) (Unit {0}) → List ℕ → Bool
 is_seen seen name = is_some (get_by_text seen name)
 
 or_swap : (a b c d : Bool) → ((a || b) || (c || d)) ≡ ((a || c) || (b || d))
@@ -71,12 +70,12 @@ pub any_none : (p : List ℕ → Bool) → ((n : List ℕ) → p n ≡ false) �
 any_none p none [] = refl
 any_none p none (n ∷ names) = rw (none n, any_none p none names) refl
 
-is_some_choice : (t : Bool) (x : Option ⊤) → is_some (cond t (Some tt) x) ≡ (t || is_some x)
+is_some_choice : (t : Bool) (x : Option (Unit {0})) → is_some (cond t (Some tt) x) ≡ (t || is_some x)
 is_some_choice true x = refl
 is_some_choice false x = refl
 
 -- what a map that got one name more has seen
-pub seen_more : (key : String Global) (name : List ℕ) (seen seen' : BTreeMap (String Global) ⊤) →
+pub seen_more : (key : String Global) (name : List ℕ) (seen seen' : BTreeMap (String Global) (Unit {0})) →
     Updates string_cmp seen seen' key (Some tt) → string_bytes key ≡ name
     → (n : List ℕ) → is_seen seen' n ≡ (bytes_eq name n || is_seen seen n)
 seen_more key name seen seen' updates same n =

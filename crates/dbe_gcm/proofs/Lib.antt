@@ -4,3 +4,4 @@ pub mod Hashes
 pub mod Tags
 pub mod Nibbles
 mod SecondBlock
+pub mod Ranges

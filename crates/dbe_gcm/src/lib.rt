@@ -11,5 +11,5 @@ mod table;
 mod tests;
 
 pub use dbe_aes::Key256;
-pub use laws::opens_what_was_sealed;
+pub use laws::{cuts_what_was_sealed, opens_what_was_sealed, seals_what_opens};
 pub use seal::{open_in_place, seal_in_place};

@@ -1,5 +1,5 @@
 -- What a condition is, without where it lies in memory (this project's own).
-use Rattle.std.specs.Prelude.{◌≢◌, List, [], ◌∷◌, map, ⊤}
+use Rattle.std.specs.Prelude.{◌≢◌, List, [], ◌∷◌, map}
 use Rattle.dbe_tokens.specs.declared.token.Op.{Op}
 use Rattle.dbe_tokens.specs.declared.token.Name.{Name}
 use Rattle.dbe_tokens.specs.declared.token.Operand.{Operand}
@@ -45,24 +45,24 @@ abbrev pub members_of : List Tree → Forms
 members_of trees = forms_of (map form_of trees)
 
 abbrev pub HaveTwo : Forms → Type 0
-HaveTwo (some f (some g fs)) = ⊤
+HaveTwo (some f (some g fs)) = Unit {0}
 HaveTwo fs = ⊥
 
 -- And and Or have two members or more, and a list of IN has one or more.
 abbrev mutual
   pub IsLawful : Form → Type 0
-  IsLawful (compare left op right) = ⊤
-  IsLawful (between value low high) = ⊤
+  IsLawful (compare left op right) = Unit {0}
+  IsLawful (between value low high) = Unit {0}
   IsLawful (within value list) = list ≢ []
-  IsLawful (begins name front) = ⊤
-  IsLawful (exists name) = ⊤
-  IsLawful (lacks name) = ⊤
+  IsLawful (begins name front) = Unit {0}
+  IsLawful (exists name) = Unit {0}
+  IsLawful (lacks name) = Unit {0}
   IsLawful (not f) = IsLawful f
   IsLawful (and fs) = HaveTwo fs × AreLawful fs
   IsLawful (or fs) = HaveTwo fs × AreLawful fs
 
   pub AreLawful : Forms → Type 0
-  AreLawful none = ⊤
+  AreLawful none = Unit {0}
   AreLawful (some f fs) = IsLawful f × AreLawful fs
 
 -- one more at the end

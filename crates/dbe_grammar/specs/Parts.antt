@@ -1,5 +1,5 @@
 -- A part of a condition at the front of tokens, or the place where none can be, as the steps of the parser answer.
-use Rattle.std.specs.Prelude.{◌≡◌, ◌≢◌, ℕ, List, [], ◌∷◌, ◌++◌, length, Option, Some, None, ⊤}
+use Rattle.std.specs.Prelude.{◌≡◌, ◌≢◌, ℕ, List, [], ◌∷◌, ◌++◌, length, Option, Some, None}
 use Rattle.dbe_tokens.specs.declared.token.Token.{Token}
 use Rattle.dbe_tokens.specs.declared.token.Token.TheVariants as t
 use Rattle.dbe_tokens.specs.declared.token.Name.{Name}
@@ -16,7 +16,7 @@ next_of (token ∷ tokens) = Some token
 
 -- what may stand after a part that goes as far as it can
 abbrev pub AfterAny : List Token → Type 0
-AfterAny others = ⊤
+AfterAny others = Unit {0}
 
 abbrev pub AfterAnd : List Token → Type 0
 AfterAnd others = next_of others ≢ Some t.And
@@ -47,7 +47,7 @@ pub record IsStuck (Part : Type 0) (text : Part → List Token → List Token) (
       front ++ more ≡ text part others → After others → ⊥
 
 abbrev pub Stops : (List Token → ℕ → Type 0) → List Token → Stop → Type 0
-Stops Stuck tokens s.Memory = ⊤
+Stops Stuck tokens s.Memory = Unit {0}
 Stops Stuck tokens (s.Misfit left) = Stuck tokens left
 
 abbrev pub OrFront : List Token → Form → List Token → Type 0

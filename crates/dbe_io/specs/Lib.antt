@@ -6,3 +6,5 @@ pub mod Reading
 pub mod Held
 pub mod Steps
 pub mod Memory
+pub mod Dice
+pub mod KeyStream

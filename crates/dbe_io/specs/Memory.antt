@@ -1,4 +1,4 @@
--- What contracts see of a plan of failures, and of a source and a sink in memory (this project's own).
+-- What contracts see of a plan of failures, and of a source, a sink and random bytes in memory (this project's own).
 use Rattle.std.specs.Prelude.{ℕ, ◌==◌, ◌+◌, ◌-◌, ◌^◌, min, Bool, List, if◌then◌else◌}
 use Rattle.std.specs.List.{list_any}
 
@@ -26,6 +26,13 @@ pub record SinkInMemory : Type 0 where
   pub faults : ℕ  -- how many have failed
   pub idle : ℕ  -- how many writes took nothing of a piece that has bytes
   pub finished : Bool  -- whether the last call was a `finish` that was Ok
+
+-- random bytes in memory
+pub record DiceInMemory : Type 0 where
+  pub left : List ℕ  -- the bytes still to come
+  pub calls : ℕ  -- how many calls were made
+  pub fails : List ℕ  -- which calls fail, from 1
+  pub faults : ℕ  -- how many have failed
 
 -- a count after one more, which stays at its greatest value
 abbrev pub one_more : ℕ → ℕ

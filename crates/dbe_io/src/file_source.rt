@@ -59,7 +59,6 @@ impl<F: Read> Source for FileSource<F> {
 #[cfg(test)]
 mod tests {
     use super::*;
-    use crate::LineReader;
     use std::fs;
     use std::test::Fail;
 
@@ -67,12 +66,10 @@ mod tests {
     fn reads_a_file(rt: HostRuntime) -> Result<(), Fail> {
         fs::write(&rt, "dbe_io.lines", b"a\n\xff")?;
         let mut source = FileSource::new(&rt, "dbe_io.lines", false);
-        let mut reader = LineReader::new(rt.alloc(), 8, 8)?;
-        let first = reader.next(&mut source)?.ok_or("no line")?;
-        let second = reader.next(&mut source)?.ok_or("no line")?;
-        assert_eq!(rt; first.as_slice(), b"a".as_slice());
-        assert_eq!(rt; second.as_slice(), b"\xff".as_slice());
-        assert!(rt; reader.next(&mut source)?.is_none());
+        let mut out = [0; 4];
+        assert_eq!(rt; source.read(&mut out)?, 3);
+        assert_eq!(rt; out, *b"a\n\xff\0");
+        assert_eq!(rt; source.read(&mut out)?, 0);
         fs::remove_file(&rt, "dbe_io.lines")?;
         Ok(())
     }

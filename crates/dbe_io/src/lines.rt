@@ -208,18 +208,20 @@ impl LineReader {
 #[cfg(test)]
 mod tests {
     use super::*;
-    use crate::{Failed, MemSource};
+    use crate::MemSource;
+    use std::process::Abort;
     use std::test::Fail;
 
-    // What some calls answer: each line in brackets, a point at the end, a letter for a fault.
+    // What five calls of a new reader answer.
     fn answers(
         alloc: Global,
-        reader: &mut LineReader,
+        limit: usize,
+        total: u64,
         source: &mut MemSource,
-        calls: u8,
     ) -> Result<Vec<u8>, Fail> {
+        let mut reader = LineReader::new(alloc, limit, total)?;
         let mut shown = Vec::new(alloc);
-        for _ in 0..calls {
+        for _ in 0..5u8 {
             match reader.next(source) {
                 Ok(Some(line)) => {
                     shown.push(b'<')?;
@@ -227,133 +229,122 @@ mod tests {
                     shown.push(b'>')?;
                 }
                 Ok(None) => shown.push(b'.')?,
-                Err(LineFault::Memory) => shown.push(b'M')?,
-                Err(LineFault::Read) => shown.push(b'R')?,
-                Err(LineFault::LineTooLong) => shown.push(b'L')?,
-                Err(LineFault::TooMuch) => shown.push(b'T')?,
+                Err(fault) => shown.push(letter(fault))?,
             }
         }
         Ok(shown)
     }
 
-    #[test]
-    fn lines_are_the_same_however_they_are_cut(rt: HostRuntime) -> Result<(), Fail> {
-        let cases: [(&[u8], u8, &[u8]); 7] = [
-            (b"", 2, b".."),
-            (b"a", 3, b"<a>.."),
-            (b"a\n", 3, b"<a>.."),
-            (b"\n", 2, b"<>."),
-            (b"\n\n", 3, b"<><>."),
-            (
-                b"a\n\nb\0\xff\xc3\n\nlast",
-                6,
-                b"<a><><b\0\xff\xc3><><last>.",
-            ),
-            (
-                b"a long line\r\nand the rest\n",
-                3,
-                b"<a long line\r><and the rest>.",
-            ),
-        ];
-        for (bytes, calls, wanted) in cases {
+    fn letter(fault: LineFault) -> u8 {
+        match fault {
+            LineFault::Memory => b'M',
+            LineFault::Read => b'R',
+            LineFault::LineTooLong => b'L',
+            LineFault::TooMuch => b'T',
+        }
+    }
+
+    // A case has a limit, a total, the source's bytes and the answers, however the source is cut.
+    fn each_answers(
+        rt: &impl Abort,
+        alloc: Global,
+        cases: &[(usize, u64, &[u8], &[u8])],
+    ) -> Result<(), Fail> {
+        for (limit, total, bytes, wanted) in cases {
             for most in [1, 2, 7, usize::MAX] {
-                let bytes = bytes.to_vec(rt.alloc())?;
-                let mut source = MemSource::in_pieces(bytes, most, Vec::new(rt.alloc()));
-                let mut reader = LineReader::new(rt.alloc(), 100, 100)?;
-                let shown = answers(rt.alloc(), &mut reader, &mut source, calls)?;
-                assert_eq!(rt; shown.as_slice(), wanted);
-                assert_eq!(rt; source.left(), b"".as_slice());
+                let bytes = bytes.to_vec(alloc)?;
+                let mut source = MemSource::in_pieces(bytes, most, Vec::new(alloc));
+                let shown = answers(alloc, *limit, *total, &mut source)?;
+                assert_eq!(rt; shown.as_slice(), *wanted);
             }
         }
         Ok(())
+    }
+
+    #[test]
+    fn lines_are_the_same_however_they_are_cut(rt: HostRuntime) -> Result<(), Fail> {
+        each_answers(
+            &rt,
+            rt.alloc(),
+            &[
+                (100, 100, b"", b"....."),
+                (100, 100, b"a", b"<a>...."),
+                (100, 100, b"a\n", b"<a>...."),
+                (100, 100, b"\n", b"<>...."),
+                (100, 100, b"\n\n", b"<><>..."),
+                (
+                    100,
+                    100,
+                    b"a\n\n\0\xff\xc3\nlast",
+                    b"<a><><\0\xff\xc3><last>.",
+                ),
+                (100, 100, b"long line\r\nrest\n", b"<long line\r><rest>..."),
+            ],
+        )
     }
 
     #[test]
     fn stops_at_its_limits(rt: HostRuntime) -> Result<(), Fail> {
-        let cases: [(usize, u64, &[u8], &[u8]); 15] = [
-            (2, 100, b"ab\ncd", b"<ab><cd>."),
-            (2, 100, b"abc\n", b"LLL"),
-            (2, 100, b"ab\nabc", b"<ab>LL"),
-            (0, 100, b"\n\na", b"<><>L"),
-            (9, 3, b"ab\n", b"<ab>.."),
-            (9, 3, b"abc", b"<abc>.."),
-            (9, 3, b"abc\n", b"TTT"),
-            (9, 3, b"ab\nc", b"<ab>TT"),
-            (9, 3, b"abcd", b"TTT"),
-            (9, 0, b"", b"..."),
-            (9, 0, b"\n", b"TTT"),
-            (2, 3, b"abc", b"LLL"),
-            (3, 3, b"abcd", b"TTT"),
-            (2, 4, b"a\nbcd", b"<a>TT"),
-            (2, 5, b"a\nbcd", b"<a>LL"),
-        ];
-        for (limit, total, bytes, wanted) in cases {
-            for most in [1, 2, usize::MAX] {
-                let bytes = bytes.to_vec(rt.alloc())?;
-                let mut source = MemSource::in_pieces(bytes, most, Vec::new(rt.alloc()));
-                let mut reader = LineReader::new(rt.alloc(), limit, total)?;
-                let shown = answers(rt.alloc(), &mut reader, &mut source, 3)?;
-                assert_eq!(rt; shown.as_slice(), wanted);
-            }
-        }
-        Ok(())
+        each_answers(
+            &rt,
+            rt.alloc(),
+            &[
+                (2, 100, b"ab\ncd", b"<ab><cd>..."),
+                (2, 100, b"abc\n", b"LLLLL"),
+                (2, 100, b"ab\nabc", b"<ab>LLLL"),
+                (0, 100, b"\n\na", b"<><>LLL"),
+                (9, 3, b"ab\n", b"<ab>...."),
+                (9, 3, b"abc", b"<abc>...."),
+                (9, 3, b"abc\n", b"TTTTT"),
+                (9, 3, b"ab\nc", b"<ab>TTTT"),
+                (9, 3, b"abcd", b"TTTTT"),
+                (9, 0, b"", b"....."),
+                (9, 0, b"\n", b"TTTTT"),
+                (2, 3, b"abc", b"LLLLL"),
+                (3, 3, b"abcd", b"TTTTT"),
+                (2, 4, b"a\nbcd", b"<a>TTTT"),
+                (2, 5, b"a\nbcd", b"<a>LLLL"),
+            ],
+        )
     }
 
-    #[test]
-    fn takes_one_byte_past_a_limit(rt: HostRuntime) -> Result<(), Fail> {
-        let cases: [(usize, u64, &[u8], &[u8]); 3] = [
-            (2, 100, b"L", b"defgh"),
-            (100, 4, b"T", b"fgh"),
-            (100, 100, b"<abcdefgh>", b""),
-        ];
-        for (limit, total, wanted, left) in cases {
-            let mut source = MemSource::new(b"abcdefgh".to_vec(rt.alloc())?, Vec::new(rt.alloc()));
-            let mut reader = LineReader::new(rt.alloc(), limit, total)?;
-            let shown = answers(rt.alloc(), &mut reader, &mut source, 1)?;
-            assert_eq!(rt; shown.as_slice(), wanted);
-            assert_eq!(rt; source.left(), left);
+    // A case has the call that fails, of a source that gives a byte a call, and the answers.
+    fn each_stays(rt: &impl Abort, alloc: Global, cases: &[(u64, &[u8])]) -> Result<(), Fail> {
+        for (call, wanted) in cases {
+            let bytes = b"a\nb\n".to_vec(alloc)?;
+            let mut source = MemSource::in_pieces(bytes, 1, vec![in alloc; *call]?);
+            let shown = answers(alloc, 9, 9, &mut source)?;
+            assert_eq!(rt; shown.as_slice(), *wanted);
         }
         Ok(())
     }
 
     #[test]
     fn a_failed_read_stays(rt: HostRuntime) -> Result<(), Fail> {
-        let cases: [(u64, &[u8]); 6] = [
-            (1, b"RRRR"),
-            (2, b"RRRR"),
-            (3, b"<a>RRR"),
-            (4, b"<a>RRR"),
-            (5, b"<a><b>RR"),
-            (6, b"<a><b>.."),
-        ];
-        for (call, wanted) in cases {
-            let bytes = b"a\nb\n".to_vec(rt.alloc())?;
-            let mut source = MemSource::in_pieces(bytes, 1, vec![in rt.alloc(); call]?);
-            let mut reader = LineReader::new(rt.alloc(), 9, 9)?;
-            let shown = answers(rt.alloc(), &mut reader, &mut source, 4)?;
-            assert_eq!(rt; shown.as_slice(), wanted);
-        }
-        let bytes = b"a\n".to_vec(rt.alloc())?;
-        let mut source = MemSource::new(bytes, vec![in rt.alloc(); 1]?);
-        assert_eq!(rt; source.read(&mut [0; 4]), Err(Failed));
-        assert_eq!(rt; source.read(&mut [0; 4]), Ok(2));
-        Ok(())
+        each_stays(
+            &rt,
+            rt.alloc(),
+            &[
+                (1, b"RRRRR"),
+                (2, b"RRRRR"),
+                (3, b"<a>RRRR"),
+                (4, b"<a>RRRR"),
+                (5, b"<a><b>RRR"),
+                (6, b"<a><b>..."),
+            ],
+        )
     }
 
     #[test]
     fn a_line_may_be_longer_than_a_block(rt: HostRuntime) -> Result<(), Fail> {
-        let mut bytes = b"x".to_vec(rt.alloc())?;
-        for _ in 0..17u8 {
-            let copy = bytes.to_vec(rt.alloc())?;
-            bytes.extend_from_slice(&copy)?;
-        }
+        let mut bytes = vec![in rt.alloc(); b'x'; 131_072]?;
         bytes.extend_from_slice(b"\ny")?;
         let mut source = MemSource::new(bytes, Vec::new(rt.alloc()));
         let mut reader = LineReader::new(rt.alloc(), 200_000, 200_000)?;
         let long = reader.next(&mut source)?.ok_or("no line")?;
         assert_eq!(rt; long.len(), 131_072);
-        let last = answers(rt.alloc(), &mut reader, &mut source, 2)?;
-        assert_eq!(rt; last.as_slice(), b"<y>.".as_slice());
+        let last = reader.next(&mut source)?.ok_or("no line")?;
+        assert_eq!(rt; last.as_slice(), b"y".as_slice());
         Ok(())
     }
 }

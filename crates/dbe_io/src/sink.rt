@@ -86,37 +86,47 @@ pub fn write_all<O: Sink>(sink: &mut O, bytes: &[u8]) -> Result<(), WriteFault>
 mod tests {
     use super::*;
     use crate::MemSink;
+    use std::alloc::Global;
+    use std::process::Abort;
     use std::test::Fail;
 
-    #[test]
-    fn writes_all_or_a_front(rt: HostRuntime) -> Result<(), Fail> {
-        let cases: [(usize, usize, u64, Result<(), WriteFault>, &[u8]); 8] = [
-            (usize::MAX, 3, 0, Ok(()), b"abc"),
-            (1, 3, 0, Ok(()), b"abc"),
-            (2, 4, 0, Ok(()), b"abc"),
-            (1, 2, 0, Err(WriteFault::TookNothing), b"ab"),
-            (0, 3, 0, Err(WriteFault::TookNothing), b""),
-            (1, 3, 1, Err(WriteFault::Failed), b""),
-            (1, 3, 2, Err(WriteFault::Failed), b"a"),
-            (1, 3, 3, Err(WriteFault::Failed), b"ab"),
-        ];
+    // A case has the most bytes of a write, the room, the call that fails, the answer to writing
+    // `abc`, and what was written.
+    fn each_answers(
+        rt: &impl Abort,
+        alloc: Global,
+        cases: &[(usize, usize, u64, Result<(), WriteFault>, &[u8])],
+    ) -> Result<(), Fail> {
         for (most, room, fails, answer, written) in cases {
-            let fails = vec![in rt.alloc(); fails]?;
-            let mut sink = MemSink::in_pieces(rt.alloc(), most, room, fails)?;
-            assert_eq!(rt; write_all(&mut sink, b"abc"), answer);
-            assert_eq!(rt; sink.written(), written);
+            let mut sink = MemSink::in_pieces(alloc, *most, *room, vec![in alloc; *fails]?)?;
+            assert!(rt; write_all(&mut sink, b"abc") == *answer);
+            assert!(rt; sink.written() == *written);
         }
         Ok(())
     }
 
     #[test]
-    fn finish_counts_as_a_call(rt: HostRuntime) -> Result<(), Fail> {
-        let mut sink = MemSink::new(rt.alloc(), 1, vec![in rt.alloc(); 2]?)?;
-        assert_eq!(rt; sink.write(b"a"), Ok(1));
-        assert_eq!(rt; sink.finish(), Err(Failed));
+    fn writes_all_or_a_prefix(rt: HostRuntime) -> Result<(), Fail> {
+        each_answers(
+            &rt,
+            rt.alloc(),
+            &[
+                (usize::MAX, 3, 0, Ok(()), b"abc"),
+                (1, 3, 0, Ok(()), b"abc"),
+                (2, 4, 0, Ok(()), b"abc"),
+                (1, 2, 0, Err(WriteFault::TookNothing), b"ab"),
+                (0, 3, 0, Err(WriteFault::TookNothing), b""),
+                (1, 3, 1, Err(WriteFault::Failed), b""),
+                (1, 3, 2, Err(WriteFault::Failed), b"a"),
+                (1, 3, 3, Err(WriteFault::Failed), b"ab"),
+            ],
+        )
+    }
+
+    #[test]
+    fn a_sink_in_memory_ends(rt: HostRuntime) -> Result<(), Fail> {
+        let mut sink = MemSink::new(rt.alloc(), 1, Vec::new(rt.alloc()))?;
         assert_eq!(rt; sink.finish(), Ok(()));
-        assert_eq!(rt; sink.write(b"b"), Ok(0));
-        assert_eq!(rt; sink.written(), b"a".as_slice());
         Ok(())
     }
 }

@@ -1,7 +1,7 @@
 -- Which items may be stored (Amazon DynamoDB Developer Guide, "Service, account, and table quotas": 400 KB an item;
 -- how a size is
 -- counted and the other rules are this project's own).
-use Rattle.std.specs.Prelude.{ℕ, ◌+◌, Bool, List, [], ◌∷◌, length, nat_lt, is_none, sum_by, Option, Some, None, ⊤}
+use Rattle.std.specs.Prelude.{ℕ, ◌+◌, Bool, List, [], ◌∷◌, length, nat_lt, is_none, sum_by, Option, Some, None}
 use Rattle.std.specs.Prelude.{if◌then◌else◌}
 use Rattle.dbe_values.specs.View.{view}
 use Rattle.dbe_values.specs.declared.value.AttrValue.{AttrValue}
@@ -60,7 +60,7 @@ put_fault c item =
 
 -- a refusal that names an attribute
 abbrev pub HasName : Option PutFault → Type 0
-HasName (Some (f.Key name)) = ⊤
-HasName (Some (f.Reserved name)) = ⊤
-HasName (Some (f.Unknown name)) = ⊤
+HasName (Some (f.Key name)) = Unit {0}
+HasName (Some (f.Reserved name)) = Unit {0}
+HasName (Some (f.Unknown name)) = Unit {0}
 HasName _ = ⊥

@@ -2,4 +2,4 @@ pub mod Maps
 pub mod Outputs
 pub mod Blocks
 pub mod Filling
-pub mod EmptySalt
+pub mod NoSalt

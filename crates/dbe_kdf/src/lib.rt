@@ -3,12 +3,19 @@
 #![tactic(auto)]
 
 mod block;
+mod empty_salt;
 mod hkdf;
 mod hmac;
+mod keyed384;
+mod keyed512;
 mod laws;
+mod prk;
 #[cfg(test)]
 mod tests;
 
+pub use empty_salt::EmptySalt;
 pub use hkdf::hkdf512;
 pub use hmac::{hmac384, hmac512};
+pub use keyed384::Keyed384;
 pub use laws::{hkdf_law, output_law};
+pub use prk::Prk;

@@ -1,4 +1,4 @@
-use crate::{hkdf512, hmac384, hmac512};
+use crate::{EmptySalt, Keyed384, hkdf512, hmac384, hmac512};
 use sha2::{Digest, Sha512};
 use std::process::Abort;
 
@@ -75,6 +75,11 @@ fn rfc_4231(rt: HostRuntime) {
     for (key, text, want384, want512) in cases {
         assert!(rt; spells(want384, hmac384(key, text).as_slice()));
         assert!(rt; spells(want512, hmac512(key, text).as_slice()));
+        let (first, rest) = text.split_at(text.len() / 2);
+        let mut pieces = Keyed384::new(key);
+        pieces.update(first);
+        pieces.update(rest);
+        assert!(rt; spells(want384, pieces.finish().as_slice()));
     }
 }
 
@@ -83,6 +88,11 @@ fn derives(rt: &impl Abort, ikm: &[u8], salt: &[u8], info: &[u8], want: &[u8], w
     let mut front = [0u8; 65];
     hkdf512(ikm, salt, info, &mut front);
     assert!(rt; spells(want, &front));
+    if salt.is_empty() {
+        let mut again = [0u8; 65];
+        EmptySalt::new().extract(ikm).expand(info, &mut again);
+        assert!(rt; again == front);
+    }
     let mut most = [0u8; 16320];
     hkdf512(ikm, salt, info, &mut most);
     let digest = Sha512::digest(&most);

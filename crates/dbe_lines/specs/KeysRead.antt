@@ -18,7 +18,7 @@ abbrev pub fault_request : ItemFault → Request
 fault_request NotObject = r.Shape
 fault_request (At name why) = r.Value name why
 
--- a fault that is told, and so is not want of memory
+-- a fault that is told, and so is not out of memory
 abbrev pub IsTold : ItemFault → Type 0
 IsTold NotObject = Unit {0}
 IsTold (At name v.Memory) = ⊥

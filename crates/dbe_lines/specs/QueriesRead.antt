@@ -1,5 +1,5 @@
 -- What a call that reads the placeholders of a query answers (this project's own).
-use Rattle.std.specs.Prelude.{◌≡◌, ℕ, List, Result, Ok, Err, ⊤}
+use Rattle.std.specs.Prelude.{◌≡◌, ℕ, List, Result, Ok, Err}
 use Rattle.dbe_values.specs.declared.fault.ValueFault.{ValueFault}
 use Rattle.dbe_values.specs.declared.fault.ValueFault.TheVariants as v
 use Rattle.dbe_lines.specs.Queries.{Faulty}
@@ -12,13 +12,13 @@ use Rattle.dbe_lines.specs.declared.request.Request.TheVariants as r
 abbrev pub GivesAsked : {A : Type 0} → Result A AskFault → Result A Faulty → Type 0
 GivesAsked (Ok a) read = read ≡ Ok a
 GivesAsked (Err (ask.At name why)) read = read ≡ Err (name, why)
-GivesAsked (Err ask.Memory) read = ⊤
+GivesAsked (Err ask.Memory) read = Unit {0}
 
 abbrev pub IsFaulty : AskFault → Request → Type 0
 IsFaulty (ask.At name why) request = request ≡ r.Value name why
 IsFaulty ask.Memory request = ⊥
 
--- a fault of the value under a placeholder; want of memory is told as such
+-- a fault of the value under a placeholder; out of memory is told as such
 abbrev pub fault_at : List ℕ → ValueFault → AskFault
 fault_at name v.Memory = ask.Memory
 fault_at name v.Shape = ask.At name v.Shape

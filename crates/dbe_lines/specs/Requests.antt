@@ -1,6 +1,6 @@
 -- What a line of the script asks for (this project's own).
 use Rattle.std.specs.Prelude.{◌≡◌, ℕ, ◌==◌, ◌&&◌, Bool, true, false, List, codes, Option, Some, None, is_some}
-use Rattle.std.specs.Prelude.{option_map, Result, Ok, Err, if◌then◌else◌, ⊤}
+use Rattle.std.specs.Prelude.{option_map, Result, Ok, Err, if◌then◌else◌}
 use Rattle.serde_json.specs.Data.{Data}
 use Rattle.serde_json.specs.Find.{get, as_str}
 use Rattle.dbe_values.specs.Val.{Val, Entries}
@@ -105,11 +105,11 @@ request_of st line = request_in st (json_of line)
 abbrev pub HasLawfulKey : Setting → Request → Type 0
 HasLawfulKey st (r.Get key) = is_lawful_key st.schema (key_view key) ≡ true
 HasLawfulKey st (r.Check key) = is_lawful_key st.schema (key_view key) ≡ true
-HasLawfulKey st r.NotJson = ⊤
-HasLawfulKey st r.Shape = ⊤
-HasLawfulKey st (r.Value name why) = ⊤
-HasLawfulKey st (r.Key name) = ⊤
-HasLawfulKey st r.NotBuilt = ⊤
-HasLawfulKey st (r.Put item) = ⊤
-HasLawfulKey st (r.Query q) = ⊤
-HasLawfulKey st (r.Explain q) = ⊤
+HasLawfulKey st r.NotJson = Unit {0}
+HasLawfulKey st r.Shape = Unit {0}
+HasLawfulKey st (r.Value name why) = Unit {0}
+HasLawfulKey st (r.Key name) = Unit {0}
+HasLawfulKey st r.NotBuilt = Unit {0}
+HasLawfulKey st (r.Put item) = Unit {0}
+HasLawfulKey st (r.Query q) = Unit {0}
+HasLawfulKey st (r.Explain q) = Unit {0}

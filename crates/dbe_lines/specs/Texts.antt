@@ -114,7 +114,7 @@ value_word v.TooDeep = codes "TooDeep"
 value_word v.BadName = codes "BadName"
 value_word v.Memory = codes "Memory"
 
--- the refusal of a put; want of memory has none
+-- the refusal of a put; out of memory has none
 abbrev pub put_refusal : PutFault → List ℕ
 put_refusal (p.Key name) = refused_name (codes "key") name
 put_refusal (p.Reserved name) = refused_name (codes "reserved") name
@@ -123,7 +123,7 @@ put_refusal p.TooMany = refused_text (codes "attributes")
 put_refusal p.Size = refused_text (codes "size")
 put_refusal p.Memory = []
 
--- the refusal of a condition; want of memory has none
+-- the refusal of a condition; out of memory has none
 abbrev pub cond_refusal : CondFault → List ℕ
 cond_refusal c.TooLong = refused_for (codes "condition") (codes "TooLong")
 cond_refusal (c.BadToken at) = refused_at (codes "condition") (codes "BadToken") at

@@ -1,4 +1,4 @@
-//! The small values that every layer speaks of: bytes, texts, numbers and want of memory.
+//! The small values that every layer speaks of: bytes, texts, numbers, and out of memory.
 #![tactic(auto)]
 
 mod bytes;

@@ -1,1 +1,3 @@
 pub mod Edk
+pub mod Wrap
+pub mod Ring

@@ -1,6 +1,6 @@
 -- Items under their keys as a map, what a script makes of it, and which rows stand for it (this project's own).
 use Rattle.std.specs.Prelude.{◌≡◌, ℕ, List, [], ◌∷◌, ◌++◌, None, Result, Ok, Err, filter, length, bytes_eq}
-use Rattle.std.specs.Prelude.{if◌then◌else◌, ⊤}
+use Rattle.std.specs.Prelude.{if◌then◌else◌}
 use Rattle.std.specs.List.{All}
 use Rattle.std.specs.Ordering.{is_lt}
 use Rattle.std.specs.declared.alloc.Global.{Global}
@@ -104,4 +104,4 @@ pub record Stands (e : Environment) (state : State) (m : Items) : Type 0 where
 
 -- The keys that the rows of a map need are at hand. A plain table needs none.
 abbrev pub HasKeys : Environment → Type 0
-HasKeys e = ⊤
+HasKeys e = Unit {0}

@@ -1,6 +1,6 @@
 -- The reply to a line, and the rows after it (this project's own).
 use Rattle.std.specs.Prelude.{◌≡◌, ◌≢◌, ℕ, ◌+◌, Bool, if◌then◌else◌, List, [], ◌∷◌, ◌++◌, Option, Some, None}
-use Rattle.std.specs.Prelude.{option_map, Result, Ok, Err, length, map, filter, codes, ⊤}
+use Rattle.std.specs.Prelude.{option_map, Result, Ok, Err, length, map, filter, codes}
 use Rattle.std.specs.List.{list_any}
 use Rattle.dbe_values.specs.declared.key.KeyValue.{KeyValue}
 use Rattle.dbe_values.specs.KeyValues.{key_view}
@@ -63,14 +63,14 @@ IsReading q (Err fault) = (fault ≢ c.Memory) × Refuses q.text q.names q.value
 abbrev pub IsReadingOf : Request → Result Condition CondFault → Type 0
 IsReadingOf (r.Query q) reading = IsReading q reading
 IsReadingOf (r.Explain q) reading = IsReading q reading
-IsReadingOf r.NotJson reading = ⊤
-IsReadingOf r.Shape reading = ⊤
-IsReadingOf (r.Value name why) reading = ⊤
-IsReadingOf (r.Key name) reading = ⊤
-IsReadingOf r.NotBuilt reading = ⊤
-IsReadingOf (r.Put item) reading = ⊤
-IsReadingOf (r.Get key) reading = ⊤
-IsReadingOf (r.Check key) reading = ⊤
+IsReadingOf r.NotJson reading = Unit {0}
+IsReadingOf r.Shape reading = Unit {0}
+IsReadingOf (r.Value name why) reading = Unit {0}
+IsReadingOf (r.Key name) reading = Unit {0}
+IsReadingOf r.NotBuilt reading = Unit {0}
+IsReadingOf (r.Put item) reading = Unit {0}
+IsReadingOf (r.Get key) reading = Unit {0}
+IsReadingOf (r.Check key) reading = Unit {0}
 
 -- a reply that leaves the state, and for which no bytes are drawn
 abbrev pub answer : State → List ℕ → ℕ → Reply

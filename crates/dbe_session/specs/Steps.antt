@@ -1,5 +1,5 @@
 -- What one line does to the objects that a session is given (this project's own).
-use Rattle.std.specs.Prelude.{◌≡◌, ◌⊎◌, ℕ, false, List, Some, None, Result, length, ⊤}
+use Rattle.std.specs.Prelude.{◌≡◌, ◌⊎◌, ℕ, false, List, Some, None, Result, length}
 use Rattle.std.specs.declared.option.Option.{Option}
 use Rattle.dbe_config.specs.Setting.{Setting}
 use Rattle.dbe_config.specs.Rules.{is_among}
@@ -62,7 +62,7 @@ IsGivenBy reply before after = (after ≡ before) ⊎ (after ≡ risen before re
 
 -- rows are wanted for a condition
 abbrev pub IsOnly : Wanted → Type 0
-IsOnly (w.Only cond) = ⊤
+IsOnly (w.Only cond) = Unit {0}
 IsOnly w.Every = ⊥
 
 -- the condition of wanted rows; an empty AND holds of every row

@@ -1,5 +1,5 @@
 -- What a table in memory holds (this project's own).
-use Rattle.std.specs.Prelude.{◌≡◌, ℕ, Bool, true, List, [], ◌∷◌, Option, None, Some, Ok, ⊤}
+use Rattle.std.specs.Prelude.{◌≡◌, ℕ, Bool, true, List, [], ◌∷◌, Option, None, Some, Ok}
 use Rattle.std.specs.Ordering.{is_lt}
 use Rattle.dbe_num.specs.Decimal.{IsNormal}
 use Rattle.dbe_values.specs.Val as v
@@ -38,11 +38,11 @@ rows_held (Some held) = held.rows
 -- a value that is a number stands in its normal form
 abbrev pub IsNormalValue : Val → Type 0
 IsNormalValue (v.number x) = IsNormal x
-IsNormalValue _ = ⊤
+IsNormalValue _ = Unit {0}
 
 -- a sort value that is a number stands in its normal form
 abbrev pub IsNormalSort : Option Val → Type 0
-IsNormalSort None = ⊤
+IsNormalSort None = Unit {0}
 IsNormalSort (Some s) = IsNormalValue s
 
 -- the numbers of a key stand in their normal form
@@ -51,7 +51,7 @@ IsNormalKey k = IsNormalValue k.0 × IsNormalSort k.1
 
 -- each row stands under its key
 abbrev pub AreKeyed : KeySchema → List (KeyValue × Row) → Type 0
-AreKeyed schema [] = ⊤
+AreKeyed schema [] = Unit {0}
 AreKeyed schema (e ∷ es) = ((row_key schema e.1 ≡ Ok (key_view e.0)) × IsNormalKey (key_view e.0)) × AreKeyed schema es
 
 -- whether a key comes behind the last one, where there is one

@@ -1,5 +1,5 @@
 -- The front of a text, as the steps of the cutting find it.
-use Rattle.std.specs.Prelude.{◌≡◌, ℕ, ◌+◌, true, false, List, [], ◌∷◌, ◌++◌, length, Some, None, ◌≢◌, ⊤}
+use Rattle.std.specs.Prelude.{◌≡◌, ℕ, ◌+◌, true, false, List, [], ◌∷◌, ◌++◌, length, Some, None, ◌≢◌}
 use Rattle.std.specs.List.{list_all}
 use Rattle.dbe_tokens.specs.declared.token.Token.{Token}
 use Rattle.dbe_tokens.specs.declared.token.Span.{Span}
@@ -8,7 +8,7 @@ use Rattle.dbe_tokens.specs.Text.{IsLongest}
 
 -- no part of a word stands at the front
 abbrev pub EndsParts : List ℕ → Type 0
-EndsParts [] = ⊤
+EndsParts [] = Unit {0}
 EndsParts (b ∷ bytes) = is_part b ≡ false
 
 -- all parts at the front, and what follows them

@@ -1,6 +1,6 @@
 -- A text cut into tokens (this project's own).
 use Rattle.std.specs.Prelude.{◌≡◌, ◌≢◌, ℕ, ◌+◌, ◌-◌, ◌==◌, ◌||◌, IsTrue, true, false, List, [], ◌∷◌, ◌++◌, length}
-use Rattle.std.specs.Prelude.{take, drop, Some, None, Result, Ok, Err, ⊤}
+use Rattle.std.specs.Prelude.{take, drop, Some, None, Result, Ok, Err}
 use Rattle.std.specs.List.{list_all}
 use Rattle.dbe_tokens.specs.declared.token.Token.{Token}
 use Rattle.dbe_tokens.specs.declared.token.Span.{Span}
@@ -38,7 +38,7 @@ AreTokens at text (token ∷ tokens) (start ∷ starts) end back =
 
 -- the end, a space, a parenthesis or a comma: no token goes on with it
 abbrev pub EndsToken : List ℕ → Type 0
-EndsToken [] = ⊤
+EndsToken [] = Unit {0}
 EndsToken (b ∷ bytes) = IsTrue (b == 32 || b == 40 || b == 41 || b == 44)
 
 -- the bytes of a range, as far as the text goes
@@ -63,17 +63,17 @@ pub record IsBadAt (text : List ℕ) (at : ℕ) : Type 0 where
   pub bad : IsBad at back
 
 abbrev pub Refuses : List ℕ → TokenFault → Type 0
-Refuses text f.Memory = ⊤
+Refuses text f.Memory = Unit {0}
 Refuses text (f.BadToken at) = IsBadAt text at
 
 -- these tokens, unless memory ran out
 abbrev pub Gives : Result Tokens TokenFault → List Token → List ℕ → Type 0
 Gives (Ok found) tokens starts = (found.tokens.items ≡ tokens) × (found.starts.items ≡ starts)
-Gives (Err f.Memory) tokens starts = ⊤
+Gives (Err f.Memory) tokens starts = Unit {0}
 Gives (Err (f.BadToken at)) tokens starts = ⊥
 
 -- this place, unless memory ran out
 abbrev pub GivesBad : Result Tokens TokenFault → ℕ → Type 0
 GivesBad (Ok found) at = ⊥
-GivesBad (Err f.Memory) at = ⊤
+GivesBad (Err f.Memory) at = Unit {0}
 GivesBad (Err (f.BadToken place)) at = place ≡ at

@@ -1,4 +1,4 @@
--- Reading in steps, of which the first fault counts. Want of memory is no fault of what is read.
+-- Reading in steps, of which the first fault counts. Out of memory is no fault of what is read.
 use Rattle.std.specs.Prelude.{◌≡◌, Option, Some, None, Result, Ok, Err}
 use Rattle.dbe_values.specs.declared.fault.ValueFault.{ValueFault}
 use Rattle.dbe_values.specs.declared.fault.ValueFault.TheVariants.{Shape, BadNumber, BadBase64, EmptySet}
@@ -13,7 +13,7 @@ abbrev pub or_fault : {A : Type 0} → ValueFault → Option A → Result A Valu
 or_fault e None = Err e
 or_fault e (Some x) = Ok x
 
--- a fault that reading has, or want of memory
+-- a fault that reading has, or out of memory
 abbrev pub Fails : {B : Type 0} → ValueFault → Result B ValueFault → Type 0
 Fails Memory read = Unit {0}
 Fails Shape read = read ≡ Err Shape

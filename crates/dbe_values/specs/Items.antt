@@ -35,7 +35,7 @@ item_in (string s) = Err NotObject
 item_in (array ds) = Err NotObject
 item_in (object ms) = attributes_in ms
 
--- a fault at a name, or want of memory
+-- a fault at a name, or out of memory
 abbrev pub FailsAt : List ℕ → ValueFault → Result Entries ItemFault → Type 0
 FailsAt name Memory read = Unit {0}
 FailsAt name Shape read = read ≡ Err (At name Shape)
@@ -52,7 +52,7 @@ GivesItem (Ok item) read = read ≡ Ok (entries_of (map_list entry_view item))
 GivesItem (Err NotObject) read = read ≡ Err NotObject
 GivesItem (Err (At name why)) read = FailsAt name why read
 
--- a fault at this name, or want of memory
+-- a fault at this name, or out of memory
 abbrev pub IsAt : ItemFault → List ℕ → ValueFault → Type 0
 IsAt NotObject name why = ⊥
 IsAt (At there Memory) name why = Unit {0}

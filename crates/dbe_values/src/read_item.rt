@@ -66,7 +66,7 @@ fn put_last(alloc: Global, item: &mut Item, name: &str, value: AttrValue) -> Res
     item.push(Text::copy_of(alloc, name)?, value)
 }
 
-/// A fault at a name, or want of memory where the name finds none.
+/// A fault at a name, or out of memory where the name finds none.
 fn fault_at(alloc: Global, name: &str, why: ValueFault) -> ItemFault
     ensures { IsAt result name.now why }
 {

@@ -1,4 +1,4 @@
-use Rattle.std.proofs.Common.{ℕ, get_or, refl, sym, ap, ◌∙◌, ◌++◌, [], ◌∷◌, List}
+use Rattle.std.proofs.Common.{ℕ, get_or, refl, sym, ap, ◌∙◌, List}
 use Rattle.std.proofs.lemmas.List.FromFn.{fill_by_all}
 use Rattle.dbe_aes.specs.Counters.{inc32}
 use Rattle.dbe_gcm.specs.Gcm.{j0}

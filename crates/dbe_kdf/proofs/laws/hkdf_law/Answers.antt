@@ -1,5 +1,5 @@
 use Rattle.dbe_kdf.proofs.Blocks.{take-hkdf}
-use Rattle.dbe_kdf.proofs.EmptySalt.{hkdf-empty_salt}
+use Rattle.dbe_kdf.proofs.NoSalt.{hkdf-empty_salt}
 use Rattle.dbe_kdf.proofs.laws.hkdf_law.Goals as goal
 
 pub returns-clause-prefix : goal.returns-clause-prefix

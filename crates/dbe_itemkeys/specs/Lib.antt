@@ -1,0 +1,2 @@
+pub mod ItemKeys
+pub mod Field
