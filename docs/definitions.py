@@ -118,7 +118,7 @@ class Reach:
 
     def __init__(self, files):
         self.files, self.blocks, self.types = files, collections.defaultdict(list), set()
-        self.contract = self.follow_code("crates/dbe/src/top.rt", r"pub fn serve<.*?^\{")
+        self.contract = self.follow_code("crates/dbe_serve/src/top.rt", r"pub fn serve<.*?^\{")
         traits = re.findall(r"\w: (\w+)", re.search(r"<(.*?)>", self.contract, re.S)[1])
         self.traits = {}
         for path in sorted(glob.glob("crates/*/src/*.rt")):

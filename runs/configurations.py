@@ -1,7 +1,7 @@
 """Runs the program in folders with one configuration each, and compares how it ends with what configurations.txt says.
 
 Other cases are made here by a rule: counts and lengths at their bounds, many recipients, texts that are cut, a text of
-the greatest length, and the longest keys. Prints how many cases there were.
+the greatest length, the longest keys, and the greatest items. Prints how many cases there were.
 
     runs/configurations.py PROGRAM
 """
@@ -110,6 +110,22 @@ def keys():
     return config.encode(), script.encode(), replies
 
 
+# A script of puts of items with as many attributes and bytes as an item may have, and with one more, and its replies.
+# The names of the key have 4 and 7 bytes, its values 4 and 2, and the name of the title has 5.
+def items():
+    config = '{"table":"stock","partition":{"name":"shop","type":"S"},"sort":{"name":"article","type":"N"}'
+    config += ',"actions":{"title":"ENCRYPT_AND_SIGN"},"unsigned_prefix":"x_","recipients":[]}'
+    key = '"shop":{"S":"Bend"},"article":{"N":"10"}'
+    script, replies = "", ""
+    for more, reply in (998, '{"ok":"put"}'), (999, '{"refused":"attributes"}'):
+        script += '{"put":{%s,%s}}\n' % (key, numbered('"x_NUMBER":{"NULL":true}', more))
+        replies += reply + "\n"
+    for length, reply in (409578, '{"ok":"put"}'), (409579, '{"refused":"size"}'):
+        script += '{"put":{%s,"title":{"S":"%s"}}}\n' % (key, "t" * length)
+        replies += reply + "\n"
+    return config.encode(), script.encode(), replies
+
+
 # The exit code of the program, its line on standard error and its replies.
 def end_of(program, folder, config, script=b""):
     with open(os.path.join(folder, "dbe.json"), "wb") as opened:
@@ -130,10 +146,10 @@ def main(program):
                 wrong += 1
                 print(config[:2000].decode(errors="replace"))
                 print("Expected: %r\nThe program: %r" % (expected, found))
-        config, script, replies = keys()
-        if end_of(program, folder, config, script) != (0, "", replies):
-            wrong += 1
-            print("The replies to keys of the greatest lengths differ.")
+        for name, (config, script, replies) in ("keys", keys()), ("items", items()):
+            if end_of(program, folder, config, script) != (0, "", replies):
+                wrong += 1
+                print("The replies to the greatest %s differ." % name)
     print("%d configurations, %d wrong" % (len(cases), wrong))
     return 1 if wrong else 0
 

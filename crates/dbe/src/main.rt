@@ -1,19 +1,11 @@
 //! Serves a script of requests over a DynamoDB table of items, by a configuration.
 #![tactic(auto)]
 
-mod arguments;
-mod status;
-#[cfg(test)]
-mod tests;
-mod top;
-
-pub use arguments::{Arguments, StdArguments, read_arguments};
 use dbe_io::{FileSource, StdSink, StdSource};
+use dbe_serve::{Status, StdArguments, read_arguments, serve};
 use dbe_table::MemTable;
-pub use status::Status;
 use std::process::ExitCode;
 use std::rt::Runtime;
-pub use top::serve;
 
 /// Serves the script on standard input by the configuration in `dbe.json`, and writes the replies to
 /// standard output. A status other than `Done` is a line on standard error.

@@ -6,6 +6,8 @@ mod fields;
 mod given;
 mod items;
 mod texts;
+mod tokens;
+mod trees;
 mod values;
 
 use crate::texts::{parts, push};
@@ -54,6 +56,9 @@ fn answer(
         "lent" | "lent-by-copy" | "action" | "computed" => {
             answer_by(alloc, out, config, kind, case)
         }
+        "tokens" | "deep" | "printed" => tokens::answer(alloc, out, kind, case),
+        "range" => tokens::range(out, case),
+        "place" => trees::place(alloc, out, case),
         _ => items::answer(alloc, out, config, kind, case),
     }
 }

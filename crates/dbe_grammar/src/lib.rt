@@ -14,6 +14,3 @@ pub use laws::{is_lawful, leaves, one_condition, one_place, places_move, printed
 pub use parser::parse;
 pub use printing::tokens_of;
 pub use tree::Tree;
-
-#[cfg(test)]
-mod tests;

@@ -3,8 +3,6 @@
 
 mod acceptance;
 mod fault;
-#[cfg(test)]
-mod tests;
 
 pub use acceptance::accepts;
 pub use fault::PutFault;

@@ -6,8 +6,6 @@ mod fault;
 mod queries;
 mod request;
 mod requests;
-#[cfg(test)]
-mod tests;
 mod texts;
 
 pub use conditions::condition_text;

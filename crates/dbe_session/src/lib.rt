@@ -8,7 +8,5 @@ mod names;
 mod rewriting;
 mod searching;
 mod session;
-#[cfg(test)]
-mod tests;
 
 pub use session::{Session, StepFault};

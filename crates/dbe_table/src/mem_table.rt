@@ -85,6 +85,20 @@ impl MemTable {
         }
     }
 
+    /// How many rows it has handed out. The count stays at its greatest value.
+    pub fn given(&self) -> u64
+        ensures { result ≡ self.now.given }
+    {
+        self.given
+    }
+
+    /// How often it has failed. The count stays at its greatest value.
+    pub fn faults(&self) -> u64
+        ensures { result ≡ self.now.faults }
+    {
+        self.plan.faults()
+    }
+
     // Counts a call, which fails where it does so by the plan.
     fn count_call(&mut self) -> Result<(), TableFault>
         ensures planned { is_failed result ≡ fails_at self.old.fails self.new.calls }
@@ -198,6 +212,3 @@ impl Table for MemTable {
         Ok(found)
     }
 }
-
-#[cfg(test)]
-mod tests;

@@ -1,9 +1,0 @@
-use Rattle.std.proofs.Common.{◌≡◌, Some}
-use Rattle.dbe_table.proofs.mem_table.tests.answers.Given as goal
-
-abbrev pub invariant-loop-line : goal.invariant-loop-line
-invariant-loop-line l = record {
-  next : (goal.iterator-loop-line).can_next l.line-iterator;
-  finite : (goal.iterator-loop-line).is_finite l.line-iterator;
-  begun : l.table.begun ≡ Some l.schema;
-}
