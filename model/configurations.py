@@ -46,6 +46,7 @@ WHOLE = {
          "parts": [{"name": "st", "prefix": "S", "kind": "encrypted", "from": "state"}]}],
 }
 PLAIN = {**WHOLE, "recipients": []}
+RAW = {**WHOLE, "recipients": WHOLE["recipients"][:2], "beacons": [], "compounds": []}
 
 
 def is_text(data, least, most):
@@ -196,7 +197,7 @@ def refusal(text):
             or any(not any(member["required"] for member in constructor) for _, constructor in lists)),
         ("RecipientTwice", has_twice(raw) or len(recipients) - len(raw) > 1),
         ("TooManyRecipients", len(recipients) > 8),
-        ("NotBuilt", bool(recipients)),
+        ("NotBuilt", len(recipients) > len(raw) or bool(recipients and (beacons or compounds))),
     ]
     return next((name for name, applies in rules if applies), None)
 
@@ -290,8 +291,9 @@ def made(choices):
 
 
 def choice_of(choices):
-    if choices.random() < 0.5:
-        return PLAIN
+    form = choices.random()
+    if form < 0.6:
+        return PLAIN if form < 0.4 else RAW
     found = copy.deepcopy(WHOLE)
     for name in ("recipients", "virtual", "compounds"):
         if choices.random() < 0.3:

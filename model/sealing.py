@@ -3,28 +3,7 @@
 
     model/sealing.py --check     what the rules say of the cases of model/sealing_cases.py, in some seconds
 
-Headers, contexts, record texts and footers are those of docs/FORMATS.md. Of keys, fields and the whole row the rules
-are these. HKDF is HKDF-SHA-512 without a salt, GCM is AES-256-GCM with tags of 16 bytes, and texts in quotes stand for
-their ASCII bytes.
-
-- Drawn bytes are in order the message id, 32 bytes, the data key, 32, and for each recipient an intermediate key, 32,
-  and an IV, 12.
-- An intermediate key gives a wrapping key of 32 bytes with the info "AWS_MPL_INTERMEDIATE_KEYWRAP_ENC", and a signing
-  key of 48 bytes with the info "AWS_MPL_INTERMEDIATE_KEYWRAP_MAC".
-- A raw recipient's data key in the header has the namespace as provider, the name as info, and as ciphertext 108
-  bytes: the IV, the intermediate key by GCM under the recipient's key with this IV, and the data key by GCM under the
-  wrapping key with an IV of 12 zero bytes. The associated data of both is the full context.
-- The data key gives a commit key with the info "AWS_DBE_COMMIT_KEY" and the message id, and a root key with the info
-  "AWS_DBE_DERIVE_KEY" and the message id, 32 bytes each.
-- The commitment is the first 32 bytes of HMAC-SHA-384 under the commit key over the header's bytes before it.
-- The encrypted attributes have numbers from 0 in the order of their paths. Number k has 32 bytes of key and 12 of IV:
-  the first 44 bytes of the AES-256 counter stream under the root key whose first counter block is "AwsDbeField", the
-  byte 2c, and 3k in 4 bytes.
-- A stored field is a binary: the type id, and the canonical bytes by GCM with the path as associated data.
-- The tag of a recipient is HMAC-SHA-384 under its signing key over SHA-384 of the record text.
-- A sealed row has the item's attributes, those with ENCRYPT_AND_SIGN as stored fields; the binary `aws_dbe_head`, the
-  header with a data key for each recipient; and the binary `aws_dbe_foot`, their tags. Recipients stand in the
-  configuration's order.
+The rules are those of docs/FORMATS.md, from "Sealed rows" on.
 """
 import hashlib
 import hmac
@@ -37,7 +16,7 @@ try:
     from cryptography.hazmat.primitives.ciphers import Cipher, algorithms, modes
     from cryptography.hazmat.primitives.ciphers.aead import AESGCM
 except ImportError:
-    print("model/sealing.py is left out: this Python has no package cryptography")
+    print(f"{sys.argv[0]} is left out: this Python has no package cryptography")
     sys.exit(0)
 
 IDS = {name: bytes.fromhex(digits) for name, digits in {

@@ -71,7 +71,7 @@ def members():
     for answer, count in ("accepted", 32), ("Shape", 33):
         yield answer, '"context":{%s}' % numbered('"aNUMBER":"x"', count)
     ring = '{"kind":"raw","namespace":"n","name":"kNUMBER","key":"%s"}' % KEY
-    for answer, count in ("NotBuilt", 8), ("TooManyRecipients", 9), ("TooManyRecipients", 200):
+    for answer, count in ("accepted", 8), ("TooManyRecipients", 9), ("TooManyRecipients", 200):
         yield answer, '"recipients":[%s]' % numbered(ring, count)
     # Two of one name, far apart.
     yield "RecipientTwice", '"recipients":[%s,%s]' % (numbered(ring, 200), numbered(ring, 1))

@@ -1,7 +1,7 @@
 //! Serves a script of requests over a DynamoDB table of items, by a configuration.
 #![tactic(auto)]
 
-use dbe_io::{FileSource, StdSink, StdSource};
+use dbe_io::{FileSource, StdSink, StdSource, SystemDice};
 use dbe_serve::{Status, StdArguments, read_arguments, serve};
 use dbe_table::MemTable;
 use std::process::ExitCode;
@@ -29,5 +29,6 @@ fn run(rt: &HostRuntime, arguments: &[String]) -> Status {
         &mut StdSource::new(rt),
         &mut StdSink::new(rt.stdout()),
         &mut MemTable::new(alloc, Vec::new(alloc)),
+        &mut SystemDice::new(rt),
     )
 }

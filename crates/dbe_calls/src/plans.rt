@@ -2,13 +2,16 @@
 ghost use Rattle.std.specs.Prelude.{◌≡◌, ◌<◌, IfOk, None};
 
 use crate::given::Given;
-use dbe_io::{MemSink, MemSource};
+use dbe_io::{MemDice, MemSink, MemSource};
 use dbe_num::Memory;
 use dbe_table::MemTable;
+use hex::FromHexError;
 use serde_json::Value;
 use std::alloc::Global;
 
 const ROOM: usize = 65_536;
+
+const DRAWN: usize = 4_096;
 
 /// A source of these bytes.
 pub(crate) fn source(
@@ -35,6 +38,33 @@ pub(crate) fn table(alloc: Global, given: &Given, plan: &Value) -> Result<MemTab
     let fails = numbers(alloc, plan, "table_fails")?;
     let rows = given.rows(alloc)?;
     Ok(MemTable::of(alloc, rows, fails))
+}
+
+/// Dice of the bytes that `drawn` has in hexadecimal, or else of so many, which count up from 0 and begin anew after 255.
+pub(crate) fn dice(alloc: Global, plan: &Value) -> Result<MemDice, Memory> {
+    let fails = numbers(alloc, plan, "dice_fails")?;
+    let bytes = match plan.get("drawn") {
+        Some(digits) => bytes_of(alloc, digits.as_str().unwrap_or(""))?,
+        None => counted(alloc, number(plan, "dice").unwrap_or(DRAWN).min(DRAWN))?,
+    };
+    Ok(MemDice::new(bytes, fails))
+}
+
+fn counted(alloc: Global, count: usize) -> Result<Vec<u8>, Memory> {
+    let mut bytes = vec![in alloc; 0u8; count]?;
+    for i in 0..bytes.len() {
+        bytes[i] = (i % 256) as u8;
+    }
+    Ok(bytes)
+}
+
+// The bytes of hexadecimal digits, and none of another text.
+fn bytes_of(alloc: Global, digits: &str) -> Result<Vec<u8>, Memory> {
+    match hex::decode(alloc, digits) {
+        Ok(bytes) => Ok(bytes),
+        Err(FromHexError::OutOfMemory) => Err(Memory),
+        Err(_) => Ok(Vec::new(alloc)),
+    }
 }
 
 // How much a call takes.

@@ -2,7 +2,7 @@
 
 use crate::arguments::MemArguments;
 use crate::given::Given;
-use crate::plans::{sink, source, table};
+use crate::plans::{dice, sink, source, table};
 use crate::statuses::push_status;
 use crate::texts::{push, push_bytes};
 use dbe_io::{MemSink, MemSource};
@@ -59,7 +59,16 @@ fn serve_over(
 ) -> Result<(), Memory> {
     let mut config = source(alloc, given.config(), plan, "config_fails")?;
     let mut table = table(alloc, given, plan)?;
-    let status = serve(alloc, arguments, &mut config, script, written, &mut table);
+    let mut dice = dice(alloc, plan)?;
+    let status = serve(
+        alloc,
+        arguments,
+        &mut config,
+        script,
+        written,
+        &mut table,
+        &mut dice,
+    );
     push_bytes(out, written.written())?;
     write!(out, "| {} left ", script.left().len())?;
     push_status(out, status)

@@ -16,6 +16,7 @@ pub(crate) fn answer(out: &mut String) -> Result<(), Memory> {
     push_status(out, Status::ScriptTooLong)?;
     push_status(out, Status::Write)?;
     push_status(out, Status::Table)?;
+    push_status(out, Status::Dice)?;
     push_status(out, Status::Memory)
 }
 

@@ -2,10 +2,11 @@
 ghost use Rattle.std.specs.Prelude.{◌≡◌, None, Some};
 
 use crate::given::Given;
-use crate::plans::table;
+use crate::plans::{dice, table};
 use crate::quiet_table::QuietTable;
 use crate::texts::{push, push_bytes};
 use dbe_config::Config;
+use dbe_io::MemDice;
 use dbe_num::Memory;
 use dbe_session::{Session, StepFault};
 use dbe_table::{MemTable, Table, TableFault};
@@ -21,7 +22,7 @@ pub(crate) fn answer(
     plan: &Value,
 ) -> Result<(), Memory> {
     let mut table = table(alloc, given, plan)?;
-    run(alloc, out, given, &mut table)?;
+    run(alloc, out, given, &mut table, &mut dice(alloc, plan)?)?;
     push_end(alloc, out, &table)
 }
 
@@ -35,7 +36,7 @@ pub(crate) fn quiet(
     let mut table = QuietTable {
         table: table(alloc, given, plan)?,
     };
-    run(alloc, out, given, &mut table)?;
+    run(alloc, out, given, &mut table, &mut dice(alloc, plan)?)?;
     push_counts(out, &table.table)
 }
 
@@ -44,11 +45,18 @@ fn run<T: Table>(
     out: &mut String,
     given: &Given,
     table: &mut T,
+    dice: &mut MemDice,
 ) -> Result<(), Memory>
     requires { T.begun table.old ≡ None }
 {
     match Config::read(alloc, given.config().as_bytes()) {
-        Ok(config) => begin(out, &Session::new(alloc, config), table, given.script()),
+        Ok(config) => begin(
+            out,
+            &Session::new(alloc, config)?,
+            table,
+            dice,
+            given.script(),
+        ),
         Err(_) => push(out, "no configuration\n"),
     }
 }
@@ -57,12 +65,13 @@ fn begin<T: Table>(
     out: &mut String,
     session: &Session,
     table: &mut T,
+    dice: &mut MemDice,
     script: &str,
 ) -> Result<(), Memory>
     requires { T.begun table.old ≡ None }
 {
     match table.begin(session.config().schema()) {
-        Ok(()) => steps(out, session, table, script),
+        Ok(()) => steps(out, session, table, dice, script),
         Err(TableFault::Failed) => push(out, "failed\n"),
         Err(TableFault::Memory) => Err(Memory),
     }
@@ -72,12 +81,13 @@ fn steps<T: Table>(
     out: &mut String,
     session: &Session,
     table: &mut T,
+    dice: &mut MemDice,
     script: &str,
 ) -> Result<(), Memory>
     requires { T.begun table.old ≡ Some session.now.config.schema }
 {
     for line in script.lines() {
-        step(out, session, table, line)?;
+        step(out, session, table, dice, line)?;
     }
     Ok(())
 }
@@ -86,14 +96,16 @@ fn step<T: Table>(
     out: &mut String,
     session: &Session,
     table: &mut T,
+    dice: &mut MemDice,
     line: &str,
 ) -> Result<(), Memory>
     requires { T.begun table.old ≡ Some session.now.config.schema }
     ensures { T.begun table.new ≡ T.begun table.old }
 {
-    match session.step(line.as_bytes(), table) {
+    match session.step(line.as_bytes(), table, dice) {
         Ok(text) => push_bytes(out, &text),
         Err(StepFault::Table) => push(out, "failed\n"),
+        Err(StepFault::Dice) => push(out, "dice failed\n"),
         Err(StepFault::Memory) => Err(Memory),
     }
 }

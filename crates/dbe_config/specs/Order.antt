@@ -1,13 +1,13 @@
 -- The order of refusals (this project's own).
-use Rattle.std.specs.Prelude.{◌≡◌, not, Bool, true, false, List, [], ◌∷◌, ◌++◌, length, nat_lt, Option, Some, None}
+use Rattle.std.specs.Prelude.{◌≡◌, Bool, true, false, List, [], ◌∷◌, ◌++◌, length, nat_lt, Option, Some, None}
 use Rattle.std.specs.Prelude.{if◌then◌else◌}
 use Rattle.std.specs.List.{list_any}
 use Rattle.dbe_config.specs.declared.fault.ConfigFault.{ConfigFault}
 use Rattle.dbe_config.specs.declared.fault.ConfigFault.TheVariants as f
 use Rattle.dbe_config.specs.Setting.{Setting}
-use Rattle.dbe_config.specs.Rules.{is_empty_list, is_key_listed_otherwise, uses_reserved_name, uses_name_twice}
+use Rattle.dbe_config.specs.Rules.{is_key_listed_otherwise, uses_reserved_name, uses_name_twice}
 use Rattle.dbe_config.specs.Rules.{has_wrong_length, has_wrong_source, has_prefix_clash, has_wrong_split}
-use Rattle.dbe_config.specs.Rules.{is_empty_compound, has_ring_twice}
+use Rattle.dbe_config.specs.Rules.{is_empty_compound, has_ring_twice, is_not_built}
 
 -- Each rule's breach with its refusal, in order.
 abbrev pub breaches : Setting → List (Bool × ConfigFault)
@@ -22,7 +22,7 @@ breaches s =
     ∷ (list_any is_empty_compound s.compounds, f.ConstructorEmpty)
     ∷ (has_ring_twice s.recipients, f.RecipientTwice)
     ∷ (nat_lt 8 (length s.recipients), f.TooManyRecipients)
-    ∷ (not (is_empty_list s.recipients), f.NotBuilt)
+    ∷ (is_not_built s, f.NotBuilt)
     ∷ []
 
 abbrev pub first_of : List (Bool × ConfigFault) → Option ConfigFault

@@ -200,3 +200,15 @@ is_same_ring (recipient.Branch branch) (recipient.Branch branch') = true
 abbrev pub has_ring_twice : List Recipient → Bool
 has_ring_twice [] = false
 has_ring_twice (r ∷ rs) = list_any (is_same_ring r) rs || has_ring_twice rs
+
+-- ---- what cannot be sealed yet: a recipient of a branch, and recipients beside a beacon or a compound
+
+abbrev pub is_branch : Recipient → Bool
+is_branch (recipient.Raw namespace name key) = false
+is_branch (recipient.Branch branch) = true
+
+abbrev pub has_branch : List Recipient → Bool
+has_branch recipients = list_any is_branch recipients
+
+abbrev pub is_not_built : Setting → Bool
+is_not_built s = has_branch s.recipients || not (is_empty_list s.recipients) && has_beacons s.beacons s.compounds

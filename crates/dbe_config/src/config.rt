@@ -1,9 +1,9 @@
-ghost use Rattle.std.specs.Prelude.{◌≡◌, ◌≢◌, ◌≤◌, IfOk, IfErr, Ok, Err, None, length, option_map};
+ghost use Rattle.std.specs.Prelude.{◌≡◌, ◌≢◌, ◌≤◌, false, IfOk, IfErr, Ok, Err, None, length, option_map};
 ghost use Rattle.dbe_config.specs.Actions.{action_for, is_unsigned};
 ghost use Rattle.dbe_config.specs.Bounds.{IsBounded};
 ghost use Rattle.dbe_config.specs.Configured.{configured};
 ghost use Rattle.dbe_config.specs.Order.{first_fault};
-ghost use Rattle.dbe_config.specs.Rules.{has_beacons, is_empty_list};
+ghost use Rattle.dbe_config.specs.Rules.{has_beacons, is_empty_list, is_not_built};
 
 use crate::draft::{Draft, formed, has_beacons};
 use crate::{Action, Compound, ConfigFault, ContextPair, Recipient, Standard, Virtual, names};
@@ -80,6 +80,13 @@ impl Config {
     /// A law: there are at most 8 recipients.
     pub fn keeps_few_recipients(&self)
         ensures { length self.now.recipients ≤ 8 }
+    {
+        let _draft = &self.draft;
+    }
+
+    /// A law: no recipient is of a branch, and there are no recipients beside a beacon or a compound.
+    pub fn keeps_built(&self)
+        ensures { is_not_built self.now ≡ false }
     {
         let _draft = &self.draft;
     }

@@ -6,7 +6,7 @@ ghost use Rattle.dbe_values.specs.Json.{json_of};
 ghost use Rattle.dbe_config.specs.Setting.{Setting};
 ghost use Rattle.dbe_config.specs.Shape.{setting_in, count_optional, has_its_members, prefix_in, branch_id_in, recipient_in};
 ghost use Rattle.dbe_config.specs.Spelling.{optional, array_of};
-ghost use Rattle.dbe_config.specs.Rules.{uses_reserved_name, names_computed_twice, uses_name_twice, lacks_branch, has_wrong_source, is_among, virtual_names, compound_names, has_beacons};
+ghost use Rattle.dbe_config.specs.Rules.{uses_reserved_name, names_computed_twice, uses_name_twice, lacks_branch, has_wrong_source, is_among, virtual_names, compound_names, has_beacons, is_not_built};
 ghost use Rattle.dbe_config.specs.Order.{first_fault};
 ghost use Rattle.dbe_config.specs.Bounds.{IsBounded};
 ghost use Rattle.dbe_config.specs.Configured.{formed};
@@ -22,7 +22,7 @@ use crate::read_compound::one_if;
 use crate::read_context::context_in;
 use crate::read_keys::schema_in;
 use crate::read_recipient::branch_id_in;
-use crate::recipient_rules::has_ring_twice;
+use crate::recipient_rules::{has_branch, has_ring_twice};
 use crate::source_rules::{
     has_wrong_beacon, has_wrong_compound, has_wrong_length, has_wrong_virtual,
 };
@@ -114,10 +114,17 @@ impl Draft {
         if self.recipients.len() > MOST_RECIPIENTS {
             return Ok(Some(ConfigFault::TooManyRecipients));
         }
-        if !self.recipients.is_empty() {
+        if self.is_not_built() {
             return Ok(Some(ConfigFault::NotBuilt));
         }
         Ok(None)
+    }
+
+    fn is_not_built(&self) -> bool
+        ensures { result ≡ is_not_built self.now }
+    {
+        has_branch(&self.recipients)
+            || !self.recipients.is_empty() && has_beacons(&self.beacons, &self.compounds)
     }
 
     fn uses_reserved_name(&self) -> bool

@@ -27,7 +27,7 @@ pub enum ConfigFault {
     RecipientTwice,
     /// More than 8 recipients.
     TooManyRecipients,
-    /// There are recipients, which are not built yet.
+    /// A recipient of a branch, or recipients beside a beacon or a compound: they are not built yet.
     NotBuilt,
     /// Memory ran out.
     Memory,

@@ -1,5 +1,5 @@
 ghost use Rattle.std.specs.Prelude.{◌≡◌, IfOk, option_map};
-ghost use Rattle.dbe_config.specs.Rules.{ring_name, has_ring_twice};
+ghost use Rattle.dbe_config.specs.Rules.{ring_name, has_ring_twice, is_branch, has_branch};
 
 use crate::Recipient;
 use dbe_num::Memory;
@@ -31,4 +31,20 @@ pub(crate) fn has_ring_twice(alloc: Global, rings: &[Recipient]) -> Result<bool,
         }
     }
     Ok(false)
+}
+
+fn is_branch(ring: &Recipient) -> bool
+    ensures { result ≡ is_branch ring.now }
+{
+    match ring {
+        Recipient::Raw { .. } => false,
+        Recipient::Branch { .. } => true,
+    }
+}
+
+// Whether a recipient is of a branch.
+pub(crate) fn has_branch(rings: &[Recipient]) -> bool
+    ensures { result ≡ has_branch rings.now }
+{
+    rings.iter().any(|ring| is_branch(ring))
 }

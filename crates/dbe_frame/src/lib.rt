@@ -25,7 +25,7 @@ pub use laws::{
 };
 pub use pairs::Pairs;
 pub use reading::read;
-pub use record::record_text;
+pub use record::{legend_word, put_count, put_long_path, put_stored, record_text};
 pub use signed::signed_names;
 pub use writing::write;
 

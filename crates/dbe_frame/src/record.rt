@@ -91,7 +91,8 @@ fn put_entry(
     }
 }
 
-fn legend_word(flag: u8) -> &'static [u8]
+/// `ENCRYPTED` for the legend byte of an encrypted attribute, else `PLAINTEXT`.
+pub fn legend_word(flag: u8) -> &'static [u8]
     ensures { result.now ≡ legend_word flag }
 {
     if flag == ENCRYPTED {
@@ -101,8 +102,8 @@ fn legend_word(flag: u8) -> &'static [u8]
     }
 }
 
-/// The path of an attribute behind its length, which is filled in when the path stands.
-fn put_long_path(out: &mut Vec<u8>, table: &Text, name: &Text) -> Result<(), Memory>
+/// Appends the path of an attribute behind its length in 8 bytes, which is filled in when the path stands.
+pub fn put_long_path(out: &mut Vec<u8>, table: &Text, name: &Text) -> Result<(), Memory>
     ensures { OnOk result (out.new.items ≡ out.old.items ++ long_string (path_of table.now name.now)) }
 {
     let start = out.len();
@@ -112,8 +113,9 @@ fn put_long_path(out: &mut Vec<u8>, table: &Text, name: &Text) -> Result<(), Mem
     Ok(())
 }
 
-/// The type and the canonical bytes of a value behind their length, which is filled in when they stand.
-fn put_stored(out: &mut Vec<u8>, alloc: Global, value: &AttrValue) -> Result<(), Memory>
+/// Appends the type and the canonical bytes of a value behind their length in 8 bytes, which is filled in when they
+/// stand.
+pub fn put_stored(out: &mut Vec<u8>, alloc: Global, value: &AttrValue) -> Result<(), Memory>
     ensures { OnOk result (out.new.items ≡ out.old.items ++ long_string (type_id (view value.now) ++ canon_of (view value.now))) }
 {
     let start = out.len();
@@ -124,8 +126,9 @@ fn put_stored(out: &mut Vec<u8>, alloc: Global, value: &AttrValue) -> Result<(),
     Ok(())
 }
 
+/// Appends a length in 8 bytes, big-endian.
 #[tactic(auto, unfolding(dbe_canon::specs::Canon::count_bytes))]
-fn put_count(out: &mut Vec<u8>, count: u64) -> Result<(), Memory>
+pub fn put_count(out: &mut Vec<u8>, count: u64) -> Result<(), Memory>
     ensures { OnOk result (out.new.items ≡ out.old.items ++ count_bytes count) }
 {
     put_bytes(out, &count.to_be_bytes())

@@ -1,1 +1,33 @@
 mod Walks
+mod Searched
+mod Feeding
+mod Marks
+mod Ringed
+mod Ends
+mod Seeking
+mod Frames
+mod Finding
+mod FieldSteps
+mod MarkedNames
+mod OpenedItems
+mod Pieces
+mod SealedNames
+mod Recipients
+mod SealedRow
+mod LawsFound
+mod LawsOpened
+mod LawsStages
+mod LawsReasons
+mod LawsNames
+mod LawsFields
+mod LawsKeys
+mod SealsPut
+mod SealsHeader
+mod SealsFields
+mod SealsBeacons
+mod SealsAccepted
+mod SealsFrame
+mod SealsRow
+mod SealsParts
+pub mod SealsStand
+pub mod Stood

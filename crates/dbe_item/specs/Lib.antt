@@ -1,1 +1,11 @@
 pub mod Acceptance
+pub mod Names
+pub mod Sealed
+pub mod Opens
+pub mod Reasons
+pub mod Stands
+pub mod Digest
+pub mod Opening
+pub mod Sealing
+pub mod Unsealed
+pub mod Ruled

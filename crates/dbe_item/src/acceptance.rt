@@ -73,7 +73,7 @@ fn first_unknown<'a>(config: &Config, item: &'a Item) -> Option<&'a Text>
     None
 }
 
-fn is_reserved(name: &Text) -> bool
+pub(crate) fn is_reserved(name: &Text) -> bool
     ensures { result ≡ is_reserved name.now }
 {
     name.as_bytes().starts_with(b"aws_dbe_")

@@ -3,12 +3,14 @@ use Rattle.std.proofs.Common.{◌≡◌, ℕ, Bool, true, false, ◌||◌, List,
 use Rattle.std.proofs.Common.{refl}
 use Rattle.std.specs.Ordering.{match_ordering}
 use Rattle.std.specs.Cmp.Lexicographic.{slice_cmp}
-use Rattle.serde_json.specs.Data.{Members, object, string, no_members, member, put}
+use Rattle.serde_json.specs.Data.{Data, Members, object, string, no_members, member, put}
 use Rattle.serde_json.specs.Written.{has_float, members_have_float}
 use Rattle.dbe_values.specs.declared.value.AttrValue.{AttrValue}
 use Rattle.dbe_values.specs.Writing.{item_data}
 use Rattle.dbe_values.proofs.NoFloats.{item_has_no_float}
-use Rattle.dbe_lines.specs.Texts.{with_names, names_data, condition_data}
+use Rattle.dbe_values.specs.declared.key.KeySchema.{KeySchema}
+use Rattle.dbe_values.specs.declared.key.KeyValue.{KeyValue}
+use Rattle.dbe_lines.specs.Texts.{with_names, names_data, condition_data, key_attributes, key_data}
 
 neither : (s t : Bool) → s ≡ false → t ≡ false → (s || t) ≡ false
 neither s t p q = rw (p, q) refl
@@ -47,3 +49,7 @@ pub no_float_condition : (text : List ℕ) (names : List (List ℕ × List ℕ))
     has_float (condition_data text names values) ≡ false
 no_float_condition text names values = neither (has_float (names_data names)) _ (names_none no_members names refl)
     (neither (has_float (item_data values)) false (item_has_no_float (item_data values) values refl) refl)
+
+-- nor has the key of a row
+pub no_float_key : (schema : KeySchema) (key : KeyValue) (d : Data) → d ≡ key_data schema key → has_float d ≡ false
+no_float_key schema key d is = item_has_no_float d (key_attributes schema key) is

@@ -20,6 +20,7 @@ use Rattle.dbe_values.specs.declared.key.KeySchema.{KeySchema}
 use Rattle.dbe_values.specs.declared.key.KeyValue.{KeyValue}
 use Rattle.dbe_values.proofs.Unviewed.{view-attr_of}
 use Rattle.dbe_config.specs.Setting.{Setting}
+use Rattle.dbe_config.specs.Rules.{is_empty_list}
 use Rattle.dbe_lines.specs.Queries.{Faulty, has_form, asked_in}
 use Rattle.dbe_lines.specs.Requests.{put_in, key_value, with_key, keyed_by, is_key_object, key_in, asked_by, is_id}
 use Rattle.dbe_lines.specs.Requests.{or_other, request_in, HasLawfulKey}
@@ -116,9 +117,11 @@ module _ (st : Setting) (make : Query → Request) (each : (q : Query) → HasLa
   asked_is (Ok q) = each q
   asked_is (Err f) = tt
 
-  if_asked : (t : Bool) (read : Result Query Faulty) → HasLawfulKey st (if t then asked_by make read else r.Shape)
-  if_asked true read = asked_is read
-  if_asked false read = tt
+  if_asked : (t p : Bool) (read : Result Query Faulty) →
+      HasLawfulKey st (if t then (if p then asked_by make read else r.NotBuilt) else r.Shape)
+  if_asked true true read = asked_is read
+  if_asked true false read = tt
+  if_asked false p read = tt
 
 if_built : (st : Setting) (t : Bool) → HasLawfulKey st (if t then r.NotBuilt else r.Shape)
 if_built st true = tt
@@ -139,9 +142,11 @@ in_is st None = tt
 in_is st (Some d) = if_one st (size_of d == 1) _
     (or_is st (get (codes "put") d) _ _ (λ item. put_is st (item_in item))
     (or_is st (get (codes "get") d) _ _ (key_is st r.Get (λ key is. is))
-    (or_is st (get (codes "query") d) _ _ (λ q. if_asked st r.Query (λ q. tt) (has_form q) (asked_in q))
+    (or_is st (get (codes "query") d) _ _ (λ q. if_asked st r.Query (λ q. tt) (has_form q)
+    (is_empty_list st.recipients) (asked_in q))
     (or_is st (get (codes "check") d) _ _ (key_is st r.Check (λ key is. is))
-    (or_is st (get (codes "explain") d) _ _ (λ q. if_asked st r.Explain (λ q. tt) (has_form q) (asked_in q))
+    (or_is st (get (codes "explain") d) _ _ (λ q. if_asked st r.Explain (λ q. tt) (has_form q)
+    (is_empty_list st.recipients) (asked_in q))
     (or_is st (get (codes "create") d) _ _ (λ id. if_built st (is_id (as_str id)))
     (or_is st (get (codes "rotate") d) _ _ (λ id. if_built st (is_id (as_str id))) tt)))))))
 

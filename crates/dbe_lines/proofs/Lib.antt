@@ -5,3 +5,4 @@ pub mod Named
 pub mod Keys
 pub mod Empty
 pub mod Refusals
+pub mod Plain

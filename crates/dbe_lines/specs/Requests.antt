@@ -14,8 +14,10 @@ use Rattle.dbe_values.specs.BranchIds.{is_branch_id}
 use Rattle.dbe_values.specs.Items.{item_in}
 use Rattle.dbe_values.specs.Json.{json_of, size_of}
 use Rattle.dbe_values.specs.Keys.{row_key, is_lawful_key}
+use Rattle.dbe_values.specs.Lawful.{IsLawfulItem}
 use Rattle.dbe_values.specs.KeyValues.{key_view}
 use Rattle.dbe_config.specs.Setting.{Setting}
+use Rattle.dbe_config.specs.Rules.{is_empty_list}
 use Rattle.dbe_lines.specs.Queries.{Faulty, has_form, asked_in}
 use Rattle.dbe_lines.specs.declared.request.Query.{Query}
 use Rattle.dbe_lines.specs.declared.request.Request.{Request}
@@ -64,9 +66,10 @@ abbrev pub asked_by : (Query → Request) → Result Query Faulty → Request
 asked_by make (Ok q) = make q
 asked_by make (Err f) = r.Value f.0 f.1
 
--- a query, or what explains one
-abbrev pub query_in : (Query → Request) → Data → Request
-query_in make d = if has_form d then asked_by make (asked_in d) else r.Shape
+-- a query, or what explains one; over a table with recipients neither is built yet
+abbrev pub query_in : Setting → (Query → Request) → Data → Request
+query_in st make d =
+    if has_form d then (if is_empty_list st.recipients then asked_by make (asked_in d) else r.NotBuilt) else r.Shape
 
 -- a text that is a branch id
 abbrev pub is_id : Option (List ℕ) → Bool
@@ -89,9 +92,9 @@ request_in st (Some d) =
     if size_of d == 1
     then or_other (get (codes "put") d) (λ item. put_in (item_in item))
     (or_other (get (codes "get") d) (key_in st.schema r.Get)
-    (or_other (get (codes "query") d) (query_in r.Query)
+    (or_other (get (codes "query") d) (query_in st r.Query)
     (or_other (get (codes "check") d) (key_in st.schema r.Check)
-    (or_other (get (codes "explain") d) (query_in r.Explain)
+    (or_other (get (codes "explain") d) (query_in st r.Explain)
     (or_other (get (codes "create") d) id_in
     (or_other (get (codes "rotate") d) id_in
     r.Shape))))))
@@ -113,3 +116,16 @@ HasLawfulKey st r.NotBuilt = Unit {0}
 HasLawfulKey st (r.Put item) = Unit {0}
 HasLawfulKey st (r.Query q) = Unit {0}
 HasLawfulKey st (r.Explain q) = Unit {0}
+
+-- an item that is put is lawful
+abbrev pub HasLawfulItem : Request → Type 0
+HasLawfulItem (r.Put item) = IsLawfulItem item
+HasLawfulItem (r.Get key) = Unit {0}
+HasLawfulItem (r.Check key) = Unit {0}
+HasLawfulItem r.NotJson = Unit {0}
+HasLawfulItem r.Shape = Unit {0}
+HasLawfulItem (r.Value name why) = Unit {0}
+HasLawfulItem (r.Key name) = Unit {0}
+HasLawfulItem r.NotBuilt = Unit {0}
+HasLawfulItem (r.Query q) = Unit {0}
+HasLawfulItem (r.Explain q) = Unit {0}

@@ -1,5 +1,5 @@
 -- What is written for a request. Each text is compact JSON with a newline behind it (this project's own).
-use Rattle.std.specs.Prelude.{ℕ, true, List, [], ◌∷◌, ◌++◌, codes, length}
+use Rattle.std.specs.Prelude.{ℕ, nat_lt, Bool, true, List, [], ◌∷◌, ◌++◌, codes, length, Option, Some, None}
 use Rattle.std.specs.List.{flat_map}
 use Rattle.serde_json.specs.Data.{Data, null, boolean, number, unsigned, string, object, Members, no_members, member}
 use Rattle.serde_json.specs.Data.{put}
@@ -7,9 +7,14 @@ use Rattle.serde_json.specs.Written.{compact_text}
 use Rattle.dbe_values.specs.declared.value.AttrValue.{AttrValue}
 use Rattle.dbe_values.specs.declared.fault.ValueFault.{ValueFault}
 use Rattle.dbe_values.specs.declared.fault.ValueFault.TheVariants as v
+use Rattle.dbe_values.specs.declared.key.KeyName.{KeyName}
+use Rattle.dbe_values.specs.declared.key.KeySchema.{KeySchema}
+use Rattle.dbe_values.specs.declared.key.KeyValue.{KeyValue}
 use Rattle.dbe_values.specs.Writing.{item_data}
 use Rattle.dbe_item.specs.declared.fault.PutFault.{PutFault}
 use Rattle.dbe_item.specs.declared.fault.PutFault.TheVariants as p
+use Rattle.dbe_item.specs.declared.open_fault.OpenFault.{OpenFault}
+use Rattle.dbe_item.specs.declared.open_fault.OpenFault.TheVariants as o
 use Rattle.dbe_cond.specs.declared.fault.CondFault.{CondFault}
 use Rattle.dbe_cond.specs.declared.fault.CondFault.TheVariants as c
 use Rattle.dbe_lines.specs.declared.fault.RewriteFault.{RewriteFault}
@@ -31,13 +36,22 @@ none_text = line_of (object (member (codes "none") (boolean true) no_members))
 abbrev pub item_text : List (List ℕ × AttrValue) → List ℕ
 item_text item = line_of (object (member (codes "item") (item_data item) no_members))
 
--- {"checked":{"beacons":true,"encrypted":0,"recipient":null,"signed":0}}
-abbrev pub checked_text : List ℕ
-checked_text =
-    line_of
-    (object (member (codes "checked") (object (member (codes "beacons") (boolean true) (member (codes "encrypted")
-    (number (unsigned 0)) (member (codes "recipient") null (member (codes "signed") (number (unsigned 0))
-    no_members))))) no_members))
+-- the place of the encrypted data key that opened a row, or none
+abbrev pub recipient_data : Option ℕ → Data
+recipient_data None = null
+recipient_data (Some at) = number (unsigned at)
+
+-- {"beacons":beacons,"encrypted":encrypted,"recipient":recipient,"signed":signed}
+abbrev pub checked_data : Bool → ℕ → Option ℕ → ℕ → Data
+checked_data beacons encrypted recipient signed =
+    object (member (codes "beacons") (boolean beacons) (member (codes "encrypted") (number (unsigned encrypted))
+    (member (codes "recipient") (recipient_data recipient) (member (codes "signed") (number (unsigned signed))
+    no_members))))
+
+-- {"checked":{"beacons":beacons,"encrypted":encrypted,"recipient":recipient,"signed":signed}}
+abbrev pub checked_text : Bool → ℕ → Option ℕ → ℕ → List ℕ
+checked_text beacons encrypted recipient signed =
+    line_of (object (member (codes "checked") (checked_data beacons encrypted recipient signed) no_members))
 
 -- {"count":count,"scanned":scanned}
 abbrev pub count_text : ℕ → ℕ → List ℕ
@@ -137,3 +151,51 @@ cond_refusal c.Memory = []
 -- the refusal of a condition for which the table is not asked
 abbrev pub rewrite_refusal : RewriteFault → List ℕ
 rewrite_refusal (NotSearchable name) = refused_name_for (codes "rewriting") (codes "NotSearchable") name
+
+-- the sort key as an attribute, where there is one
+abbrev pub sort_attribute : Option KeyName → Option AttrValue → List (List ℕ × AttrValue)
+sort_attribute None value = []
+sort_attribute (Some sort) None = []
+sort_attribute (Some sort) (Some value) = (sort.name, value) ∷ []
+
+-- the key attributes of a row, as an item
+abbrev pub key_attributes : KeySchema → KeyValue → List (List ℕ × AttrValue)
+key_attributes schema key = (schema.partition.name, key.partition) ∷ sort_attribute schema.sort key.sort
+
+-- {name:value} of the partition key, and of the sort key where there is one
+abbrev pub key_data : KeySchema → KeyValue → Data
+key_data schema key = item_data (key_attributes schema key)
+
+-- {"key":key,"refused":"item","why":why}
+abbrev pub item_for : Data → List ℕ → List ℕ
+item_for key why = line_of (object (member (codes "key") key (reason (codes "item") why)))
+
+-- {"at":at,"key":key,"refused":"item","why":why}
+abbrev pub item_at : Data → List ℕ → ℕ → List ℕ
+item_at key why at =
+    line_of (object (member (codes "at") (number (unsigned at)) (member (codes "key") key
+    (reason (codes "item") why))))
+
+-- {"key":key,"name":name,"refused":"item","why":why}
+abbrev pub item_name_for : Data → List ℕ → List ℕ → List ℕ
+item_name_for key why name =
+    line_of (object (member (codes "key") key (member (codes "name") (string name) (reason (codes "item") why))))
+
+-- the refusal of the row of a key that does not open; out of memory has none
+abbrev pub item_refusal : KeySchema → KeyValue → OpenFault → List ℕ
+item_refusal schema key o.NoHeader = item_for (key_data schema key) (codes "NoHeader")
+item_refusal schema key (o.HeaderFault at) = item_at (key_data schema key) (codes "HeaderFault") at
+item_refusal schema key o.LegendLength = item_for (key_data schema key) (codes "LegendLength")
+item_refusal schema key o.KeyLegend = item_for (key_data schema key) (codes "KeyLegend")
+item_refusal schema key o.FooterLength = item_for (key_data schema key) (codes "FooterLength")
+item_refusal schema key o.NoRecipient = item_for (key_data schema key) (codes "NoRecipient")
+item_refusal schema key o.Commitment = item_for (key_data schema key) (codes "Commitment")
+item_refusal schema key o.RecipientTag = item_for (key_data schema key) (codes "RecipientTag")
+item_refusal schema key (o.FieldShape name) = item_name_for (key_data schema key) (codes "FieldShape") name
+item_refusal schema key (o.FieldTag name) = item_name_for (key_data schema key) (codes "FieldTag") name
+item_refusal schema key (o.NotCanonical name) = item_name_for (key_data schema key) (codes "NotCanonical") name
+item_refusal schema key o.Memory = []
+
+-- a row whose text as compact JSON has more than 4 MiB
+abbrev pub is_large_row : List (List ℕ × AttrValue) → Bool
+is_large_row row = nat_lt 4194304 (length (compact_text (item_data row)))

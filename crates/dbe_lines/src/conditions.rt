@@ -43,7 +43,12 @@ fn condition_value(alloc: Global, printed: &Printed) -> Result<Value, Memory>
     Ok(Value::Object(map))
 }
 
-fn add(alloc: Global, map: &mut Map<String, Value>, name: &str, value: Value) -> Result<(), Memory>
+pub(crate) fn add(
+    alloc: Global,
+    map: &mut Map<String, Value>,
+    name: &str,
+    value: Value,
+) -> Result<(), Memory>
     ensures { OnOk result (members_view map.new.entries ≡ put name.now (view value) (members_view map.old.entries)) }
 {
     map.insert(String::from_str(alloc, name)?, value)?;

@@ -3,6 +3,9 @@
 
 mod conditions;
 mod fault;
+mod item_refusals;
+mod large_rows;
+mod laws;
 mod queries;
 mod request;
 mod requests;
@@ -10,6 +13,9 @@ mod texts;
 
 pub use conditions::condition_text;
 pub use fault::RewriteFault;
+pub use item_refusals::item_refusal;
+pub use large_rows::is_large_row;
+pub use laws::queries_are_over_plain_tables;
 pub use request::{Query, Request};
 pub use requests::read_request;
 pub use texts::{

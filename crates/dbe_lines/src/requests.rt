@@ -1,6 +1,7 @@
 ghost use Rattle.std.specs.Prelude.{◌≡◌, IfOk, Some, option_map};
 ghost use Rattle.serde_json.specs.View.{view};
 ghost use Rattle.dbe_values.specs.Items.{item_in};
+ghost use Rattle.dbe_config.specs.Rules.{is_empty_list};
 ghost use Rattle.dbe_values.specs.Keys.{row_key};
 ghost use Rattle.dbe_values.specs.declared.key.KeyValue.{KeyValue as the_key};
 ghost use Rattle.dbe_values.specs.declared.fault.ItemFault.TheVariants.{At};
@@ -45,13 +46,13 @@ fn request_in(alloc: Global, config: &Config, value: &Value) -> Result<Request, 
         return get_in(alloc, config.schema(), key);
     }
     if let Some(query) = value.get("query") {
-        return query_in(alloc, query);
+        return query_in(alloc, config, query);
     }
     if let Some(key) = value.get("check") {
         return check_in(alloc, config.schema(), key);
     }
     if let Some(query) = value.get("explain") {
-        return explain_in(alloc, query);
+        return explain_in(alloc, config, query);
     }
     if let Some(id) = value.get("create") {
         return Ok(id_in(id));
@@ -157,11 +158,21 @@ fn has_member(name: &str, value: &Value) -> bool
     value.get(name).is_some()
 }
 
-fn query_in(alloc: Global, value: &Value) -> Result<Request, Memory>
-    ensures { IfOk result (λ request. request ≡ query_in r.Query (view value.now)) }
+// Whether the table of a configuration is searched: an encrypted one is not yet.
+fn is_searched(config: &Config) -> bool
+    ensures { result ≡ is_empty_list config.now.recipients }
+{
+    config.is_plain()
+}
+
+fn query_in(alloc: Global, config: &Config, value: &Value) -> Result<Request, Memory>
+    ensures { IfOk result (λ request. request ≡ query_in config.now r.Query (view value.now)) }
 {
     if !has_form(value) {
         return Ok(Request::Shape);
+    }
+    if !is_searched(config) {
+        return Ok(Request::NotBuilt);
     }
     match asked_in(alloc, value) {
         Ok(query) => Ok(Request::Query(query)),
@@ -169,11 +180,14 @@ fn query_in(alloc: Global, value: &Value) -> Result<Request, Memory>
     }
 }
 
-fn explain_in(alloc: Global, value: &Value) -> Result<Request, Memory>
-    ensures { IfOk result (λ request. request ≡ query_in r.Explain (view value.now)) }
+fn explain_in(alloc: Global, config: &Config, value: &Value) -> Result<Request, Memory>
+    ensures { IfOk result (λ request. request ≡ query_in config.now r.Explain (view value.now)) }
 {
     if !has_form(value) {
         return Ok(Request::Shape);
+    }
+    if !is_searched(config) {
+        return Ok(Request::NotBuilt);
     }
     match asked_in(alloc, value) {
         Ok(query) => Ok(Request::Explain(query)),

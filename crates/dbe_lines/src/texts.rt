@@ -1,9 +1,9 @@
 ghost use Rattle.std.specs.Prelude.{◌≡◌, ◌≢◌, ◌++◌, true, false, codes, IfOk};
-ghost use Rattle.serde_json.specs.Data.{object, member, no_members, number, unsigned, string, boolean, null};
+ghost use Rattle.serde_json.specs.Data.{object, member, no_members, number, unsigned, string, boolean};
 ghost use Rattle.serde_json.specs.View.{view};
 ghost use Rattle.serde_json.specs.Written.{has_float};
 ghost use Rattle.dbe_values.specs.Writing.{item_data};
-ghost use Rattle.dbe_lines.specs.Texts.{line_of, put_text, none_text, item_text, checked_text, count_text, split_text, every_text, refused_text, refused_name, refused_for, refused_name_for, refused_at, reason, value_word, put_refusal, cond_refusal, rewrite_refusal};
+ghost use Rattle.dbe_lines.specs.Texts.{line_of, put_text, none_text, item_text, checked_data, checked_text, count_text, split_text, every_text, refused_text, refused_name, refused_for, refused_name_for, refused_at, reason, value_word, put_refusal, cond_refusal, rewrite_refusal};
 
 use crate::RewriteFault;
 use dbe_cond::CondFault;
@@ -27,11 +27,21 @@ pub fn none_text(alloc: Global) -> Result<Vec<u8>, Memory>
     line_of(alloc, &none_value(alloc)?)
 }
 
-/// The reply to a check of a row of a plain table.
-pub fn checked_text(alloc: Global) -> Result<Vec<u8>, Memory>
-    ensures { IfOk result (λ text. text.items ≡ checked_text) }
+/// The reply to a check of a row: whether its beacons are right, how many attributes are encrypted, the place of the
+/// encrypted data key that opened it, if one did, and how many attributes are signed.
+pub fn checked_text(
+    alloc: Global,
+    beacons: bool,
+    encrypted: u64,
+    recipient: Option<u64>,
+    signed: u64,
+) -> Result<Vec<u8>, Memory>
+    ensures { IfOk result (λ text. text.items ≡ checked_text beacons encrypted recipient signed) }
 {
-    line_of(alloc, &checked_value(alloc)?)
+    line_of(
+        alloc,
+        &checked_value(alloc, beacons, encrypted, recipient, signed)?,
+    )
 }
 
 /// The reply to an explain of a condition in which a virtual field or a compound stands.
@@ -185,12 +195,23 @@ fn none_value(alloc: Global) -> Result<Value, Memory>
     Ok(json!(in alloc; {"none": true})?)
 }
 
-fn checked_value(alloc: Global) -> Result<Value, Memory>
-    ensures { IfOk result (λ v. view v ≡ object (member (codes "checked") (object (member (codes "beacons") (boolean true) (member (codes "encrypted") (number (unsigned 0)) (member (codes "recipient") null (member (codes "signed") (number (unsigned 0)) no_members))))) no_members)) }
+fn checked_value(
+    alloc: Global,
+    beacons: bool,
+    encrypted: u64,
+    recipient: Option<u64>,
+    signed: u64,
+) -> Result<Value, Memory>
+    ensures { IfOk result (λ v. view v ≡ object (member (codes "checked") (checked_data beacons encrypted recipient signed) no_members)) }
 {
-    Ok(
-        json!(in alloc; {"checked": {"beacons": true, "encrypted": 0u64, "recipient": null, "signed": 0u64}})?,
-    )
+    match recipient {
+        Some(at) => Ok(
+            json!(in alloc; {"checked": {"beacons": beacons, "encrypted": encrypted, "recipient": at, "signed": signed}})?,
+        ),
+        None => Ok(
+            json!(in alloc; {"checked": {"beacons": beacons, "encrypted": encrypted, "recipient": null, "signed": signed}})?,
+        ),
+    }
 }
 
 fn every_value(alloc: Global) -> Result<Value, Memory>

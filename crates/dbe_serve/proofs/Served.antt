@@ -1,26 +1,29 @@
 -- A run that has come some lines far.
-use Rattle.std.proofs.Common.{◌≡◌, ℕ, ◌+◌, ◌≤◌, true, List, [], ◌∷◌, ◌++◌, length, take, drop, Vec, Some, None, inl}
+use Rattle.std.proofs.Common.{◌≡◌, ℕ, ◌+◌, ◌≤◌, true, ◌⊎◌, List, []}
+use Rattle.std.proofs.Common.{◌∷◌, ◌++◌, length, take, drop, Vec, Some, None, inl}
 use Rattle.std.proofs.Common.{inr, refl, sym, ap, ◌∙◌, subst, arith, append_assoc, append-nil}
 use Rattle.std.specs.declared.alloc.Global.{Global}
 use Rattle.std.specs.declared.option.Option.{Option}
-use Rattle.std.specs.Io.KnownBytes.{Appends, IsAtEnd}
-use Rattle.std.proofs.KnownBytes.{Appends-nil, Appends-trans}
+use Rattle.std.specs.Io.KnownBytes.{Appends, Consumes, IsAtEnd}
+use Rattle.std.proofs.KnownBytes.{Appends-nil, Appends-trans, Consumes-nil, Consumes-kept, Consumes-trans}
 use Rattle.std.proofs.lemmas.List.{take-append-drop}
 use Rattle.dbe_io.specs.declared.lines.LineFault.TheVariants as f
 use Rattle.dbe_io.specs.Lines.{lines_of}
 use Rattle.dbe_io.specs.Reading.{LineReaderState, IsLineReaderState, Given, Stops}
 use Rattle.dbe_table.specs.Rows.{risen}
 use Rattle.dbe_session.specs.Reply.{Environment, State, Turn, Reply, IsTurn, AreTurns, reply_to, run, lines_in}
-use Rattle.dbe_session.specs.Steps.{SessionView, Told, IsState}
+use Rattle.dbe_session.specs.Reply.{stored_draws}
+use Rattle.dbe_session.specs.Steps.{SessionView, Told, IsState, DrawsAtMost, IsReadTurn}
 use Rattle.dbe_session.proofs.Counts.{risen_none, risen_twice}
 use Rattle.dbe_serve.specs.Worlds.{Progress}
 use Rattle.dbe_serve.specs.Run.{Replied, AreTurnsOf}
 use Rattle.dbe_serve.specs.Turns.{Turned, TurnedInPart, TurnedDown, TurnedFor, IsOfReply}
-use Rattle.dbe_serve.specs.Stops.{IsGivenFor, IsLeftOff, IsCutOff, StopsFor, NextFor, StoppedAt}
+use Rattle.dbe_serve.specs.Stops.{IsGivenFor, IsDrawnFor, IsLeftOff, IsCutOff, StopsFor, NextFor, StoppedAt}
 use Rattle.dbe_serve.specs.declared.status.Status.{Status}
 use Rattle.dbe_serve.specs.declared.status.Status.TheVariants as s
 use Rattle.dbe_serve.proofs.ReadSoFar.{ReadSoFar, ReadSoFar-more, ReadSoFar-none, nothing_to_come, pulled_from}
-use Rattle.dbe_serve.proofs.Halted.{gave_up, halted, too_long, too_much, ended_before_long, ended_before_much, read_stops}
+use Rattle.dbe_serve.proofs.Halted.{gave_up, halted, too_long}
+use Rattle.dbe_serve.proofs.Halted.{too_much, ended_before_long, ended_before_much, read_stops}
 
 -- The lines that were given got their replies.
 pub record Served (session : SessionView) (e : Environment) (bytes : List ℕ) (start : State)
@@ -48,6 +51,12 @@ run-given : (e : Environment) (s : State) (turns : List Turn) (turn : Turn) →
 run-given e s [] turn = omega arith
 run-given e s (t ∷ ts) turn = omega (arith, run-given e (reply_to e s t).state ts turn)
 
+run-drawn : (e : Environment) (s : State) (turns : List Turn) (turn : Turn) →
+    (run e s (turns ++ turn ∷ [])).drawn ≡ (run e s turns).drawn ++ (reply_to e (run e s turns).state turn).drawn
+run-drawn e s [] turn = append-nil _
+run-drawn e s (t ∷ ts) turn = ap (λ (bytes : List ℕ). (reply_to e s t).drawn ++ bytes) (run-drawn e
+    (reply_to e s t).state ts turn) ∙ sym (append_assoc (reply_to e s t).drawn _ _)
+
 lines_in-more : (turns : List Turn) (turn : Turn) → lines_in (turns ++ turn ∷ []) ≡ lines_in turns ++ turn.line ∷ []
 lines_in-more [] turn = refl
 lines_in-more (t ∷ ts) turn = ap (λ (ls : List (List ℕ)). t.line ∷ ls) (lines_in-more ts turn)
@@ -67,6 +76,7 @@ Replied-none session e before start is = record {
   given = sym (risen_none before.told.given);
   written =
       Appends-nil before.written;
+  dice = Consumes-nil before.told.dice;
 }
 
 -- the objects tell the same
@@ -76,25 +86,29 @@ Replied-same : (session : SessionView) (e : Environment) (before now after : Pro
 Replied-same session e before now after reply told written p =
     let P : Told → Type 0 = λ t. IsState session t e reply.state in
     let W : Option (List ℕ) → Type 0 = λ w. Appends before.written w reply.text in
+    let D : Option (List ℕ) → Type 0 = λ d. Consumes before.told.dice d reply.drawn in
     record {
       state = subst P (sym told) p.state;
       given = ap (λ (t : Told). t.given) told ∙ p.given;
       written =
           subst W (sym written) p.written;
+      dice = subst D (sym (ap (λ (t : Told). t.dice) told)) p.dice;
     }
 
--- so many rows more were returned
-Replied-given : (session : SessionView) (e : Environment) (before now after : Progress) (done : Reply) (given : ℕ) →
-    Replied session e before now done → IsState session after.told e done.state →
-    after.told.given ≡ risen now.told.given given → after.written ≡ now.written
-    → Replied session e before after (record done { given = done.given + given })
-Replied-given session e before now after done given p state is written =
+-- so many rows more were returned, and these bytes more drawn
+Replied-given : (session : SessionView) (e : Environment) (before now after : Progress) (done : Reply) (given : ℕ)
+    (drawn : List ℕ) → Replied session e before now done → IsState session after.told e done.state →
+    after.told.given ≡ risen now.told.given given → after.written ≡ now.written →
+    Consumes now.told.dice after.told.dice drawn
+    → Replied session e before after (record done { given = done.given + given; drawn = done.drawn ++ drawn })
+Replied-given session e before now after done given drawn p state is written dice =
     let W : Option (List ℕ) → Type 0 = λ w. Appends before.written w done.text in
     record {
       state = state;
       given = is ∙ ap (λ (n : ℕ). risen n given) p.given ∙
           risen_twice before.told.given done.given given;
       written = subst W (sym written) p.written;
+      dice = Consumes-trans before.told.dice now.told.dice after.told.dice done.drawn drawn p.dice dice;
     }
 
 -- ---- lines
@@ -147,6 +161,8 @@ Served-more session e bytes start old_reader new_reader left left' before now af
             ap (risen before.told.given) (sym (run-given e start p.turns turn));
         written = subst (Appends before.written after.written) whole (Appends-trans before.written now.written
             after.written _ _ p.replied.written t.appended);
+        dice = subst (Consumes before.told.dice after.told.dice) (sym (run-drawn e start p.turns turn))
+            (Consumes-trans before.told.dice now.told.dice after.told.dice _ _ p.replied.dice t.answered.dice);
       };
     }
 
@@ -174,20 +190,41 @@ none_for : (e : Environment) (state : State) (lines : List (List ℕ)) → IsGiv
 none_for e state [] = refl
 none_for e state (line ∷ lines) = inl refl
 
+-- nor were bytes drawn
+none_drawn : (e : Environment) (lines : List (List ℕ)) → IsDrawnFor e lines []
+none_drawn e [] = refl
+none_drawn e (line ∷ lines) = inl refl
+
 -- the next line was not begun
 left_off : (session : SessionView) (e : Environment) (before after : Progress) (done : Reply) (lines : List (List ℕ))
     → Replied session e before after done → IsLeftOff session e before after done lines
 left_off session e before after done lines p = record {
   given = 0;
   is_given = none_for e done.state lines;
+  drawn = [];
+  is_drawn = none_drawn e lines;
   replied = record {
     state = p.state;
     given = p.given ∙
         ap (risen before.told.given) (let same : done.given ≡ done.given + 0 = omega arith in same);
     written =
         p.written;
+    dice = subst (Consumes before.told.dice after.told.dice) (sym (append-nil done.drawn)) p.dice;
   };
 }
+
+-- the bytes that were drawn for a line without a reply
+taken_for : (e : Environment) (old new : Option (List ℕ)) → DrawsAtMost e.config old new → (drawn : List ℕ) ×
+    ((drawn ≡ []) ⊎ (length drawn ≡ stored_draws e.config)) × Consumes old new drawn
+taken_for e old new (inl kept) = ([], inl refl, Consumes-kept old old new [] (Consumes-nil old) kept)
+taken_for e old new (inr p) = (p.0, inr p.1, p.2)
+
+-- the rows that were returned for it
+given_for : (e : Environment) (state : State) (line : List ℕ) (before after : ℕ) → (after ≡ before) ⊎ ((turn : Turn) ×
+    IsReadTurn e line turn × (after ≡ risen before (reply_to e state turn).given)) → (given : ℕ) × ((given ≡ 0) ⊎
+    ((turn : Turn) × IsReadTurn e line turn × (given ≡ (reply_to e state turn).given))) × (after ≡ risen before given)
+given_for e state line before after (inl same) = (0, inl refl, same ∙ sym (risen_none before))
+given_for e state line before after (inr p) = ((reply_to e state p.0).given, inr (p.0, p.1, refl), p.2)
 
 -- the next line got no reply
 unanswered : (session : SessionView) (e : Environment) (before now after : Progress) (done : Reply) (line : List ℕ)
@@ -200,21 +237,15 @@ unanswered session e before now after done line lines p t =
       rows =
           t.unanswered.same_rows;
     } in
-    let P : Type 0 = IsLeftOff session e before after done (line ∷ lines) in
-    let none : (after.told.given ≡ now.told.given) → P = λ same. record {
-      given = 0;
-      is_given = inl refl;
-      replied =
-          Replied-given session e before now after done 0 p state (same ∙ sym (risen_none now.told.given)) t.same;
-    } in
-    elim t.unanswered.given [
-      | inl same ↦ none same
-      | inr (turn, is_line, is_turn, given) ↦ record {
-        given = (reply_to e done.state turn).given;
-        is_given = inr (turn, record { is_line = is_line; is_turn = is_turn }, refl);
-        replied = Replied-given session e before now after done (reply_to e done.state turn).given p state given t.same;
-      }
-    ]
+    let took = taken_for e now.told.dice after.told.dice t.unanswered.dice in
+    let gave = given_for e done.state line now.told.given after.told.given t.unanswered.given in
+    record {
+      given = gave.0;
+      is_given = gave.1;
+      drawn = took.0;
+      is_drawn = took.1;
+      replied = Replied-given session e before now after done gave.0 took.0 p state gave.2 t.same took.2;
+    }
 
 -- the reply to the next line was cut off
 cut_off : (session : SessionView) (e : Environment) (before now after : Progress) (done : Reply) (line : List ℕ) →
@@ -234,6 +265,7 @@ cut_off session e before now after done line p t =
         given = t.answered.given ∙ ap (λ (n : ℕ). risen n (reply_to e done.state turn).given) p.given ∙
             risen_twice before.told.given done.given _;
         written = Appends-trans before.written now.written after.written _ _ p.written t.appended.front;
+        dice = Consumes-trans before.told.dice now.told.dice after.told.dice _ _ p.dice t.answered.dice;
       };
     }
 
@@ -244,6 +276,8 @@ next_for : (session : SessionView) (e : Environment) (before now after : Progres
     NextFor status session e before after done (line ∷ lines)
 next_for session e before now after done line lines s.Write p t = cut_off session e before now after done line p t
 next_for session e before now after done line lines s.Table p t =
+    unanswered session e before now after done line lines p t
+next_for session e before now after done line lines s.Dice p t =
     unanswered session e before now after done line lines p t
 next_for session e before now after done line lines s.Memory p t =
     unanswered session e before now after done line lines p t
@@ -295,6 +329,7 @@ free_of : (status : Status) → IsOfReply status → (lines : List (List ℕ)) (
     StopsFor status lines prefix rest left
 free_of s.Table is lines prefix rest left = tt
 free_of s.Write is lines prefix rest left = tt
+free_of s.Dice is lines prefix rest left = tt
 free_of s.Memory is lines prefix rest left = tt
 free_of s.Done is lines prefix rest left = absurd is
 free_of s.Arguments is lines prefix rest left = absurd is
@@ -353,7 +388,8 @@ module _ (session : SessionView) (e : Environment) (bytes : List ℕ) (start : S
       StoppedAt session e s.Memory before after start bytes turns
   stopped_memory stops =
       let g = gave_up old_reader new_reader left left' f.Memory none stops in
-      let h = halted 1048576 1073741824 bytes old_reader new_reader left left' (lines_in p.turns) f.Memory p.so_far g in (
+      let h = halted 1048576 1073741824 bytes old_reader new_reader left left' (lines_in p.turns) f.Memory p.so_far
+      g in (
         p.turns,
         stopped_at session e s.Memory bytes start old_reader left before now after new_reader.held h.left p
             (is_script ∙ h.is_left) h.rest_is (few_held new_reader _ g.moves.limit p.so_far.is_limit within.held) tt

@@ -13,4 +13,5 @@ code_of s.LineTooLong = 4
 code_of s.ScriptTooLong = 4
 code_of s.Write = 5
 code_of s.Table = 6
+code_of s.Dice = 9
 code_of s.Memory = 10

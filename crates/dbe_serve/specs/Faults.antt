@@ -19,6 +19,11 @@ abbrev pub is_table : Status → Bool
 is_table s.Table = true
 is_table _ = false
 
+-- whether a status says that the dice failed
+abbrev pub is_dice : Status → Bool
+is_dice s.Dice = true
+is_dice _ = false
+
 -- whether a call failed with such a status
 abbrev pub fails_with : {T : Type 0} → (Status → Bool) → Result T Status → Bool
 fails_with is (Ok x) = false

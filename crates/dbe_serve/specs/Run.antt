@@ -2,18 +2,21 @@
 -- project's own).
 use Rattle.std.specs.Prelude.{◌≡◌, ℕ, List, ◌∷◌, ◌++◌, Some, Ok}
 use Rattle.std.specs.List.{flat_map}
-use Rattle.std.specs.Io.KnownBytes.{Appends}
+use Rattle.std.specs.Io.KnownBytes.{Appends, Consumes}
 use Rattle.dbe_io.specs.Lines.{lines_of}
 use Rattle.dbe_table.specs.Rows.{risen}
 use Rattle.dbe_config.specs.Configured.{configured}
+use Rattle.dbe_item.specs.Ruled.{IsSealing}
 use Rattle.dbe_session.specs.Reply.{Environment, State, Turn, Reply, AreTurns, reply_to, run, replies_in, lines_in}
 use Rattle.dbe_session.specs.Steps.{SessionView, IsState}
 use Rattle.dbe_session.specs.Maps.{Items, After, IsAnswer, Stands}
 use Rattle.dbe_serve.specs.Worlds.{Progress, World, begun_with}
 
--- The session is by the configuration that the bytes spell, where they are told, and the table began with its keys.
+-- The session is by the configuration that the bytes spell, where they are told, and keeps what sealing needs; and
+-- the table began with its keys.
 pub record IsSessionOf (before after : World) (session : SessionView) : Type 0 where
   pub spelled : (bytes : List ℕ) → before.config ≡ Some bytes → configured bytes ≡ Ok session.config
+  pub sealing : IsSealing session.config
   pub begun : after.begun ≡ Some session.config.schema
 
 -- the turns are those of the lines, each with the reading of its own query
@@ -21,11 +24,13 @@ pub record AreTurnsOf (e : Environment) (start : State) (turns : List Turn) (scr
   pub lines : lines_in turns ≡ script
   pub are_turns : AreTurns e start turns
 
--- The objects came to the state of a reply, its text was written, and so many rows as it has were returned.
+-- The objects came to the state of a reply, its text was written, so many rows as it has were returned, and its drawn
+-- bytes were the next of the dice.
 pub record Replied (session : SessionView) (e : Environment) (before after : Progress) (reply : Reply) : Type 0 where
   pub state : IsState session after.told e reply.state
   pub given : after.told.given ≡ risen before.told.given reply.given
   pub written : Appends before.written after.written reply.text
+  pub dice : Consumes before.told.dice after.told.dice reply.drawn
 
 -- where script and state are told, all lines of the script got their replies
 abbrev pub RanOver : SessionView → Progress → Progress → Type 0

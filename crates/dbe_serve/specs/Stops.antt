@@ -3,8 +3,8 @@ use Rattle.std.specs.Prelude.{◌≡◌, ◌⊎◌, ◌<◌, ◌≤◌, ◌+◌,
 use Rattle.std.specs.List.{All, flat_map}
 use Rattle.dbe_io.specs.Lines.{lines_of, ended_lines, IsTooLong, IsTooMuch}
 use Rattle.dbe_session.specs.Reply.{Environment, State, Turn, Reply, IsTurn, AreTurns, reply_to, run, lines_in}
-use Rattle.dbe_session.specs.Reply.{replies_in}
-use Rattle.dbe_session.specs.Steps.{SessionView, IsState}
+use Rattle.dbe_session.specs.Reply.{replies_in, stored_draws}
+use Rattle.dbe_session.specs.Steps.{SessionView, IsState, IsReadTurn}
 use Rattle.dbe_session.specs.Maps.{Items, After, Stands, after_line}
 use Rattle.dbe_serve.specs.Worlds.{Progress, World, begun_with}
 use Rattle.dbe_serve.specs.Run.{IsSessionOf, Replied, AreAnswers}
@@ -34,6 +34,7 @@ StopsFor s.Read lines prefix rest left = (taken : List ℕ) × (prefix ++ rest �
     (lines ≡ ended_lines taken)
 StopsFor s.Write lines prefix rest left = Unit {0}
 StopsFor s.Table lines prefix rest left = Unit {0}
+StopsFor s.Dice lines prefix rest left = Unit {0}
 StopsFor s.Memory lines prefix rest left = Unit {0}
 
 -- a turn of a line
@@ -44,16 +45,23 @@ pub record IsTurnOf (e : Environment) (state : State) (line : List ℕ) (turn : 
 -- no rows, or as many as the reply to the first of the lines to come returns
 abbrev pub IsGivenFor : Environment → State → List (List ℕ) → ℕ → Type 0
 IsGivenFor e state [] given = given ≡ 0
-IsGivenFor e state (line ∷ lines) given = (given ≡ 0) ⊎ ((turn : Turn) × IsTurnOf e state line turn ×
+IsGivenFor e state (line ∷ lines) given = (given ≡ 0) ⊎ ((turn : Turn) × IsReadTurn e line turn ×
     (given ≡ (reply_to e state turn).given))
 
+-- no bytes, or as many as sealing an item takes
+abbrev pub IsDrawnFor : Environment → List (List ℕ) → List ℕ → Type 0
+IsDrawnFor e [] drawn = drawn ≡ []
+IsDrawnFor e (line ∷ lines) drawn = (drawn ≡ []) ⊎ (length drawn ≡ stored_draws e.config)
+
 -- The next line got nothing of its reply: the state and what was written are those of the replies before it. Its rows
--- may have been returned.
+-- may have been returned, and its bytes drawn.
 pub record IsLeftOff (session : SessionView) (e : Environment) (before after : Progress) (done : Reply)
     (lines : List (List ℕ)) : Type 0 where
   pub given : ℕ
   pub is_given : IsGivenFor e done.state lines given
-  pub replied : Replied session e before after (record done { given = done.given + given })
+  pub drawn : List ℕ
+  pub is_drawn : IsDrawnFor e lines drawn
+  pub replied : Replied session e before after (record done { given = done.given + given; drawn = done.drawn ++ drawn })
 
 -- The reply to the next line was cut off: a prefix of it was written, and the state is that after the line.
 pub record IsCutOff (session : SessionView) (e : Environment) (before after : Progress) (done : Reply) (line : List ℕ)
@@ -66,6 +74,7 @@ pub record IsCutOff (session : SessionView) (e : Environment) (before after : Pr
   pub replied : Replied session e before after (record (reply_to e done.state turn) {
     text = done.text ++ prefix;
     given = done.given + (reply_to e done.state turn).given;
+    drawn = done.drawn ++ (reply_to e done.state turn).drawn;
   })
 
 -- Where writing failed the next line was cut off; after the last line it was the end that could not be handed on.
@@ -77,6 +86,7 @@ IsUnwritten session e before after done (line ∷ lines) = IsCutOff session e be
 abbrev pub NextFor : Status → SessionView → Environment → Progress → Progress → Reply → List (List ℕ) → Type 0
 NextFor s.Write session e before after done lines = IsUnwritten session e before after done lines
 NextFor s.Table session e before after done lines = IsLeftOff session e before after done lines
+NextFor s.Dice session e before after done lines = IsLeftOff session e before after done lines
 NextFor s.Memory session e before after done lines = IsLeftOff session e before after done lines
 NextFor s.Read session e before after done lines = Replied session e before after done
 NextFor s.LineTooLong session e before after done lines = Replied session e before after done

@@ -31,6 +31,7 @@ pub record TurnedDown (e : Environment) (state : State) (line : List ℕ) (old n
 abbrev pub TurnedFor : Status → Environment → State → List ℕ → Told → Told → Option (List ℕ) → Option (List ℕ) → Type 0
 TurnedFor s.Write e state line old new written written' = TurnedInPart e state line old new written written'
 TurnedFor s.Table e state line old new written written' = TurnedDown e state line old new written written'
+TurnedFor s.Dice e state line old new written written' = TurnedDown e state line old new written written'
 TurnedFor s.Memory e state line old new written written' = TurnedDown e state line old new written written'
 TurnedFor _ e state line old new written written' = ⊥
 
@@ -38,5 +39,6 @@ TurnedFor _ e state line old new written written' = ⊥
 abbrev pub IsOfReply : Status → Type 0
 IsOfReply s.Table = Unit {0}
 IsOfReply s.Write = Unit {0}
+IsOfReply s.Dice = Unit {0}
 IsOfReply s.Memory = Unit {0}
 IsOfReply _ = ⊥

@@ -23,6 +23,8 @@ pub enum Status {
     Write,
     /// The table failed.
     Table,
+    /// No random bytes could be drawn.
+    Dice,
     /// Memory ran out.
     Memory,
 }
@@ -39,6 +41,7 @@ impl Status {
             Status::Read | Status::LineTooLong | Status::ScriptTooLong => 4,
             Status::Write => 5,
             Status::Table => 6,
+            Status::Dice => 9,
             Status::Memory => 10,
         }
     }
@@ -55,6 +58,7 @@ impl fmt::Display for Status {
             Status::ScriptTooLong => f.write_str("script too long"),
             Status::Write => f.write_str("write"),
             Status::Table => f.write_str("table"),
+            Status::Dice => f.write_str("dice"),
             Status::Memory => f.write_str("memory"),
         }
     }

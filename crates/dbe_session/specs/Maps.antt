@@ -8,7 +8,10 @@ use Rattle.std.specs.declared.vec.Vec.{Vec}
 use Rattle.dbe_values.specs.declared.value.AttrValue.{AttrValue}
 use Rattle.dbe_values.specs.declared.key.KeySchema.{KeySchema}
 use Rattle.dbe_values.specs.Keys.{row_order}
+use Rattle.dbe_values.specs.Lawful.{IsLawfulItem}
 use Rattle.dbe_item.specs.Acceptance.{put_fault}
+use Rattle.dbe_item.specs.Stands.{StandsFor}
+use Rattle.dbe_item.specs.Ruled.{IsSealing}
 use Rattle.dbe_fields.specs.Extended.{extended}
 use Rattle.dbe_fields.specs.Split.{split_at}
 use Rattle.dbe_cond.specs.Condition.{Condition}
@@ -80,9 +83,9 @@ abbrev pub IsAnswer : Environment → State → Items → List ℕ → List ℕ 
 IsAnswer e s m line reply = (cond : Condition) → Asks e s line cond →
     reply ≡ select_text (select_of e cond m) (length (handed_out e s cond))
 
--- A row of a plain table stands for the item that it is.
+-- A row stands for an item; the item's beacon attributes are none yet.
 abbrev pub IsRowOf : Environment → State → List (List ℕ × AttrValue) → List (List ℕ × AttrValue) → Type 0
-IsRowOf e s row item = row ≡ item
+IsRowOf e s row item = StandsFor e.config [] row item
 
 -- rows stand for items, one for each and in their order
 abbrev pub AreRows : Environment → State → Items → Items → Type 0
@@ -91,8 +94,10 @@ AreRows e s [] (item ∷ items) = ⊥
 AreRows e s (row ∷ rows) [] = ⊥
 AreRows e s (row ∷ rows) (item ∷ items) = IsRowOf e s row item × AreRows e s rows items
 
--- An item may be stored: it has none of the faults of a put, and no used part of a compound has its split character.
+-- An item may be stored: its values and names are lawful, it has none of the faults of a put, and no used part of a
+-- compound has its split character.
 pub record IsAcceptable (e : Environment) (item : List (List ℕ × AttrValue)) : Type 0 where
+  pub lawful : IsLawfulItem item
   pub accepted : put_fault e.config item ≡ None
   pub unsplit : split_at e.config item ≡ None
 
@@ -102,6 +107,6 @@ pub record Stands (e : Environment) (state : State) (m : Items) : Type 0 where
   pub acceptable : All (IsAcceptable e) m
   pub are_rows : AreRows e state state.rows m
 
--- The keys that the rows of a map need are at hand. A plain table needs none.
+-- The keys that the rows of a map need are at hand: those of a configuration's recipients.
 abbrev pub HasKeys : Environment → Type 0
-HasKeys e = Unit {0}
+HasKeys e = IsSealing e.config

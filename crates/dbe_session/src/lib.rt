@@ -5,8 +5,10 @@ mod computing;
 mod explaining;
 pub mod laws;
 mod names;
+mod opening;
 mod rewriting;
 mod searching;
 mod session;
+mod storing;
 
 pub use session::{Session, StepFault};

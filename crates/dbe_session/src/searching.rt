@@ -1,10 +1,11 @@
-ghost use Rattle.std.specs.Prelude.{◌≡◌, List, filter, Some, IfOk, OnErr, IsSome, option_map};
+ghost use Rattle.std.specs.Prelude.{◌≡◌, ℕ, List, false, filter, None, Some, IfOk, OnErr, IsSome, option_map};
+ghost use Rattle.std.specs.declared.option.Option.{Option};
 ghost use Rattle.dbe_io.specs.Causes.{HasCause};
 ghost use Rattle.dbe_cond.specs.Condition.{condition_of};
 ghost use Rattle.dbe_cond.specs.Meaning.{holds};
 ghost use Rattle.dbe_table.specs.Rows.{Row, wanted_rows};
 ghost use Rattle.dbe_lines.specs.declared.request.Request.TheVariants as r;
-ghost use Rattle.dbe_session.specs.Faults.{is_table_fault};
+ghost use Rattle.dbe_session.specs.Faults.{is_table_fault, is_dice_fault};
 ghost use Rattle.dbe_session.specs.Reply.{Environment, State, handed_out, selects, selection_text, query_reply, unless_refused, refused_in};
 ghost use Rattle.dbe_session.specs.Steps.{told, IsState, RequestAnswered, RequestUnanswered, IsReply, IsGivenBy, IsOnly, IsAskedBy, only_of};
 
@@ -25,10 +26,11 @@ impl Session {
     /// The reply to a query.
     pub(crate) fn query<T: Table>(&self, table: &mut T, query: &Query) -> Result<Vec<u8>, StepFault>
         requires { T.begun table.old ≡ Some self.now.config.schema }
-        ensures ok { IfOk result (λ text. (e : Environment) (s : State) → IsState self.now (told (T.rows table.old) (T.given table.old)) e s → RequestAnswered e s (r.Query query.now) text.items (told (T.rows table.old) (T.given table.old)) (told (T.rows table.new) (T.given table.new))) }
-        ensures err { OnErr result ((e : Environment) (s : State) → IsState self.now (told (T.rows table.old) (T.given table.old)) e s → RequestUnanswered e s (r.Query query.now) (told (T.rows table.old) (T.given table.old)) (told (T.rows table.new) (T.given table.new))) }
+        ensures ok { IfOk result (λ text. (dice : Option (List ℕ)) (e : Environment) (s : State) → IsState self.now (told (T.rows table.old) (T.given table.old) dice) e s → RequestAnswered e s (r.Query query.now) text.items (told (T.rows table.old) (T.given table.old) dice) (told (T.rows table.new) (T.given table.new) dice)) }
+        ensures err { OnErr result ((dice : Option (List ℕ)) (e : Environment) (s : State) → IsState self.now (told (T.rows table.old) (T.given table.old) dice) e s → RequestUnanswered e s (r.Query query.now) (told (T.rows table.old) (T.given table.old) dice) (told (T.rows table.new) (T.given table.new) dice)) }
         ensures begun { T.begun table.new ≡ T.begun table.old }
         ensures cause { HasCause (is_table_fault result) (T.faults table.old) (T.faults table.new) }
+        ensures no_dice { is_dice_fault result ≡ false }
     {
         match read(
             self.alloc(),
@@ -45,11 +47,12 @@ impl Session {
     fn search<T: Table>(&self, table: &mut T, only: &Wanted) -> Result<Vec<u8>, StepFault>
         requires begun { IsSome (T.begun table.old) }
         requires only { IsOnly only.now }
-        ensures ok { IfOk result (λ text. (e : Environment) (s : State) → IsState self.now (told (T.rows table.old) (T.given table.old)) e s → IsReply (unless_refused s (refused_in e s (only_of only.now)) (query_reply e s (only_of only.now))) text.items (T.given table.old) (T.given table.new)) }
-        ensures err { OnErr result ((e : Environment) (s : State) → IsState self.now (told (T.rows table.old) (T.given table.old)) e s → IsGivenBy (unless_refused s (refused_in e s (only_of only.now)) (query_reply e s (only_of only.now))) (T.given table.old) (T.given table.new)) }
+        ensures ok { IfOk result (λ text. (e : Environment) (s : State) → IsState self.now (told (T.rows table.old) (T.given table.old) None) e s → IsReply (unless_refused s (refused_in e s (only_of only.now)) (query_reply e s (only_of only.now))) text.items (T.given table.old) (T.given table.new)) }
+        ensures err { OnErr result ((e : Environment) (s : State) → IsState self.now (told (T.rows table.old) (T.given table.old) None) e s → IsGivenBy (unless_refused s (refused_in e s (only_of only.now)) (query_reply e s (only_of only.now))) (T.given table.old) (T.given table.new)) }
         ensures same { T.rows table.new ≡ T.rows table.old }
         ensures begun { T.begun table.new ≡ T.begun table.old }
         ensures cause { HasCause (is_table_fault result) (T.faults table.old) (T.faults table.new) }
+        ensures no_dice { is_dice_fault result ≡ false }
     {
         let Wanted::Only(cond) = only else {
             unreachable!()
@@ -68,11 +71,12 @@ impl Session {
     ) -> Result<Vec<u8>, StepFault>
         requires begun { IsSome (T.begun table.old) }
         requires only { (rows : List Row) → wanted_rows only.now rows ≡ filter (holds (condition_of cond.now)) rows }
-        ensures ok { IfOk result (λ text. (e : Environment) (s : State) → IsState self.now (told (T.rows table.old) (T.given table.old)) e s → IsReply (query_reply e s (condition_of cond.now)) text.items (T.given table.old) (T.given table.new)) }
-        ensures err { OnErr result ((e : Environment) (s : State) → IsState self.now (told (T.rows table.old) (T.given table.old)) e s → IsGivenBy (query_reply e s (condition_of cond.now)) (T.given table.old) (T.given table.new)) }
+        ensures ok { IfOk result (λ text. (e : Environment) (s : State) → IsState self.now (told (T.rows table.old) (T.given table.old) None) e s → IsReply (query_reply e s (condition_of cond.now)) text.items (T.given table.old) (T.given table.new)) }
+        ensures err { OnErr result ((e : Environment) (s : State) → IsState self.now (told (T.rows table.old) (T.given table.old) None) e s → IsGivenBy (query_reply e s (condition_of cond.now)) (T.given table.old) (T.given table.new)) }
         ensures same { T.rows table.new ≡ T.rows table.old }
         ensures begun { T.begun table.new ≡ T.begun table.old }
         ensures cause { HasCause (is_table_fault result) (T.faults table.old) (T.faults table.new) }
+        ensures no_dice { is_dice_fault result ≡ false }
     {
         if has_computed(self.config(), cond) {
             let names = distinct_names(self.alloc(), cond)?;
@@ -92,11 +96,12 @@ impl Session {
         requires begun { IsSome (T.begun table.old) }
         requires wanted { (e : Environment) (s : State) → self.now.config ≡ e.config → wanted_rows wanted.now s.rows ≡ handed_out e s (condition_of cond.now) }
         requires names { IsAskedBy self.now.config (condition_of cond.now) (option_map (λ n. n.now) names) }
-        ensures ok { IfOk result (λ text. (e : Environment) (s : State) → IsState self.now (told (T.rows table.old) (T.given table.old)) e s → IsReply (query_reply e s (condition_of cond.now)) text.items (T.given table.old) (T.given table.new)) }
-        ensures err { OnErr result ((e : Environment) (s : State) → IsState self.now (told (T.rows table.old) (T.given table.old)) e s → IsGivenBy (query_reply e s (condition_of cond.now)) (T.given table.old) (T.given table.new)) }
+        ensures ok { IfOk result (λ text. (e : Environment) (s : State) → IsState self.now (told (T.rows table.old) (T.given table.old) None) e s → IsReply (query_reply e s (condition_of cond.now)) text.items (T.given table.old) (T.given table.new)) }
+        ensures err { OnErr result ((e : Environment) (s : State) → IsState self.now (told (T.rows table.old) (T.given table.old) None) e s → IsGivenBy (query_reply e s (condition_of cond.now)) (T.given table.old) (T.given table.new)) }
         ensures same { T.rows table.new ≡ T.rows table.old }
         ensures begun { T.begun table.new ≡ T.begun table.old }
         ensures cause { HasCause (is_table_fault result) (T.faults table.old) (T.faults table.new) }
+        ensures no_dice { is_dice_fault result ≡ false }
     {
         let found = table.select(wanted)?;
         Ok(selection_text(self.alloc(), self.config(), cond, names, &found)?)

@@ -27,6 +27,7 @@ lines-init g c =
       table = refl;
       write = refl;
       idle = refl;
+      dice = refl;
     }
 
 pub returns-in-Ok-None-clause-done : goal.returns-in-Ok-None-clause-done
@@ -99,4 +100,5 @@ lines-preserved g c =
       table = search rules;
       write = search rules;
       idle = search rules;
+      dice = search rules;
     }

@@ -22,9 +22,11 @@ returns-clause-err g c = then_err c.reply_to.result _ _ (λ p e s is.
     (is_something c.args.line.now c.if-is_empty.ensures) _ _ (p e s is)) c.reply_to.ensures.err
 
 pub returns-then-is_empty-clause-map : goal.returns-then-is_empty-clause-map
-returns-then-is_empty-clause-map g c = λ e s m is st. step_stands c.args.self.now e s m c.args.line.now _ _ is st _
+returns-then-is_empty-clause-map g c = λ e s m is st. step_stands c.args.self.now e s m c.args.line.now _ _
+    c.is_sealing.ensures is st _
     (returns-then-is_empty-clause-ok g c e s is)
 
 pub returns-clause-map : goal.returns-clause-map
-returns-clause-map g c = step_keeps c.args.self.now c.args.line.now _ _ c.reply_to.result (returns-clause-ok g c)
+returns-clause-map g c = step_keeps c.args.self.now c.args.line.now _ _ c.reply_to.result c.is_sealing.ensures
+    (returns-clause-ok g c)
     (returns-clause-err g c)
